@@ -1,0 +1,44 @@
+-- Every entry of the table is its bound. One test over the whole table: 2^m divides L! and not (L − 1)!. Since j! divides k! for j up to k,
+-- no number below L will do either.
+use mathlib.Core.Path.{_≡_, refl}
+use mathlib.Core.Bool.{Bool, true, not, _&&_, and-eq-true-iff}
+use Prim.Native.Nat.{ℕ, _+_, _-_, _%_, _^_, _≤_}
+use native.Mathlib.Decide.{decLe}
+use native.Mathlib.Omega.{arith}
+use borrow.Author.Tests.{eqb-true, eqb-false, not-true}
+use lib.Dec.{eqb}
+use lib.ListN.{getD}
+use Rattle.integers.specs.Modulo.{factorial}
+use Rattle.integers.proofs.Divisibility.{factorial-mod}
+use Rattle.search.specs.Search.{every}
+use Rattle.search.proofs.Search.{every-at}
+use Rattle.bound.specs.Bound.{IsBound, bounds, bound}
+
+-- 2^(k + 1) divides L! and not (L − 1)!, where L is entry k
+right : ℕ → Bool
+right k =
+    eqb (factorial (getD bounds k 0) % 2 ^ (k + 1)) 0 && not (eqb (factorial (getD bounds k 0 - 1) % 2 ^ (k + 1)) 0)
+
+all-right : every right 0 64 ≡ true
+unfolding every right bounds factorial
+all-right = refl
+
+-- the bound of m is entry m − 1
+pub isBound : (m : ℕ) → 1 ≤ m → m ≤ 64 → IsBound m (bound m)
+unfolding bound right
+isBound m low high = record { divides = rw power at whole; least = least }
+  where
+    power : m - 1 + 1 ≡ m
+    power = omega arith
+    L : ℕ
+    L = getD bounds (m - 1) 0
+    tests : (eqb (factorial L % 2 ^ (m - 1 + 1)) 0 ≡ true) × (not (eqb (factorial (L - 1) % 2 ^ (m - 1 + 1)) 0) ≡ true)
+    tests = and-eq-true-iff _ _ .0 (every-at right 0 64 (m - 1) all-right (omega arith) (omega arith))
+    whole : factorial L % 2 ^ (m - 1 + 1) ≡ 0
+    whole = eqb-true _ _ (tests .0)
+    short : factorial (L - 1) % 2 ^ (m - 1 + 1) ≡ 0 → ⊥
+    short = eqb-false _ _ (not-true _ (tests .1))
+    least : (k : ℕ) → factorial k % 2 ^ m ≡ 0 → L ≤ k
+    least k e =
+        elim (decLe L k)
+        [ yes l ↦ l | no n ↦ absurd (short (rw power (factorial-mod (2 ^ m) k (L - 1) (omega arith) e))) ]

@@ -1,0 +1,1 @@
+// Difference tables and their sums: definitions in specs/, laws in proofs/. No code.

@@ -1,0 +1,3 @@
+pub mod Divisibility
+pub mod Remainder
+pub mod Ring

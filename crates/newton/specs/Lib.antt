@@ -1,0 +1,4 @@
+pub mod Arithmetic
+pub mod Difference
+pub mod Polynomial
+pub mod Statement

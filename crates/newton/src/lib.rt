@@ -1,0 +1,1 @@
+// Pure mathematics: definitions in specs/, laws in proofs/. No code.

@@ -1,0 +1,143 @@
+-- The laws of bounded search, each by induction on the count.
+-- A loop that looks for the first j below n with f j keeps `first f 0 n ≡ first f j (n - j)`: first-step passes a j, first-here stops at
+-- one, first-end leaves. A loop that tests all j below n keeps `every f 0 n ≡ every f j (n - j)`: every-step, every-not and every-end.
+-- Assumes nothing.
+use mathlib.Core.Bool.{Bool, true, false}
+use mathlib.Core.Logic.{_⊎_, inl, inr, ⊎-elim}
+use mathlib.Core.Path.{_≡_, refl, sym, ap, _∙_}
+use Prim.Native.Nat.{ℕ, zero, suc, _+_, _-_, _≤_, _<_}
+use native.Mathlib.Nat.{eq-or-lt-of-le}
+use native.Mathlib.Omega.{arith}
+use Rattle.search.specs.Search.{first, every}
+
+pub true-or-false : (b : Bool) → (b ≡ true) ⊎ (b ≡ false)
+true-or-false true = inl refl
+true-or-false false = inr refl
+
+module _ (f : ℕ → Bool) where
+  pub first-none : (j : ℕ) → first f j 0 ≡ j
+  unfolding first
+  first-none j = refl
+
+  pub first-here : (j k : ℕ) → f j ≡ true → first f j k ≡ j
+  unfolding first
+  first-here j zero e = refl
+  first-here j (suc k) e = rw e
+
+  pub first-later : (j k : ℕ) → f j ≡ false → first f j (suc k) ≡ first f (j + 1) k
+  unfolding first
+  first-later j k e = rw e
+
+  pub first-low : (j k : ℕ) → j ≤ first f j k
+  first-low j zero = rw first-none (omega arith)
+  first-low j (suc k) =
+      let later = first-low (j + 1) k in
+      ⊎-elim
+      (λ (e : f j ≡ true). rw (first-here j (suc k) e) (omega arith))
+      (λ (e : f j ≡ false). rw (first-later j k e) (omega arith))
+      (true-or-false (f j))
+
+  pub first-high : (j k : ℕ) → first f j k ≤ j + k
+  first-high j zero = rw first-none (omega arith)
+  first-high j (suc k) =
+      let later = first-high (j + 1) k in
+      ⊎-elim
+      (λ (e : f j ≡ true). rw (first-here j (suc k) e) (omega arith))
+      (λ (e : f j ≡ false). rw (first-later j k e) (omega arith))
+      (true-or-false (f j))
+
+  pub first-found : (j k : ℕ) → first f j k < j + k → f (first f j k) ≡ true
+  first-found j zero l = absurd (let e = first-none j in omega arith)
+  first-found j (suc k) l =
+      ⊎-elim
+      (λ (e : f j ≡ true). rw (first-here j (suc k) e) e)
+      (λ (e : f j ≡ false). rw (first-later j k e) (first-found (j + 1) k (omega (arith, first-later j k e))))
+      (true-or-false (f j))
+
+  pub first-before : (j k i : ℕ) → j ≤ i → i < first f j k → f i ≡ false
+  first-before j zero i low high = absurd (let e = first-none j in omega arith)
+  first-before j (suc k) i low high =
+      ⊎-elim
+      (λ (e : f j ≡ true). absurd (omega (arith, first-here j (suc k) e)))
+      (λ (e : f j ≡ false).
+      ⊎-elim
+      (λ (q : j ≡ i). ap f (sym q) ∙ e)
+      (λ (l : j < i). first-before (j + 1) k i (omega arith) (omega (arith, first-later j k e)))
+      (eq-or-lt-of-le low))
+      (true-or-false (f j))
+
+  -- from j up to i, f is false throughout
+  abbrev pub NoneBelow : ℕ → ℕ → Type 0
+  NoneBelow j i = (h : ℕ) → j ≤ h → h < i → f h ≡ false
+
+  pub first-unique : (j k i : ℕ) → j ≤ i → i < j + k → f i ≡ true → NoneBelow j i → first f j k ≡ i
+  first-unique j zero i low high e before = absurd (omega arith)
+  first-unique j (suc k) i low high e before =
+      ⊎-elim
+      (λ (q : j ≡ i). first-here j (suc k) (ap f q ∙ e) ∙ q)
+      (λ (l : j < i).
+      first-later j k (before j (omega arith) l)
+      ∙ first-unique (j + 1) k i (omega arith) (omega arith) e (λ h lh hi. before h (omega arith) hi))
+      (eq-or-lt-of-le low)
+
+  pub first-absent : (j k : ℕ) → NoneBelow j (j + k) → first f j k ≡ j + k
+  first-absent j zero none = first-none j ∙ omega arith
+  first-absent j (suc k) none =
+      first-later j k (none j (omega arith) (omega arith))
+      ∙ first-absent (j + 1) k (λ h low high. none h (omega arith) (omega arith))
+      ∙ omega arith
+
+  pub first-step : (j n : ℕ) → j < n → f j ≡ false → first f j (n - j) ≡ first f (j + 1) (n - (j + 1))
+  first-step j n l e =
+      let q : n - j ≡ suc (n - (j + 1)) = omega arith in
+      ap (first f j) q ∙ first-later j (n - (j + 1)) e
+
+  pub first-end : (j n : ℕ) → n ≤ j → first f j (n - j) ≡ j
+  first-end j n l =
+      let q : n - j ≡ 0 = omega arith in
+      ap (first f j) q ∙ first-none j
+
+  pub every-none : (j : ℕ) → every f j 0 ≡ true
+  unfolding every
+  every-none j = refl
+
+  pub every-later : (j k : ℕ) → f j ≡ true → every f j (suc k) ≡ every f (j + 1) k
+  unfolding every
+  every-later j k e = rw e
+
+  pub every-here : (j k : ℕ) → f j ≡ false → every f j (suc k) ≡ false
+  unfolding every
+  every-here j k e = rw e
+
+  pub every-at : (j k i : ℕ) → every f j k ≡ true → j ≤ i → i < j + k → f i ≡ true
+  every-at j zero i all low high = absurd (omega arith)
+  every-at j (suc k) i all low high =
+      ⊎-elim
+      (λ (e : f j ≡ true).
+      ⊎-elim
+      (λ (q : j ≡ i). ap f (sym q) ∙ e)
+      (λ (l : j < i). every-at (j + 1) k i (sym (every-later j k e) ∙ all) (omega arith) (omega arith))
+      (eq-or-lt-of-le low))
+      (λ (e : f j ≡ false). cc (every-here j k e))
+      (true-or-false (f j))
+
+  pub every-of : (j k : ℕ) → ((i : ℕ) → j ≤ i → i < j + k → f i ≡ true) → every f j k ≡ true
+  every-of j zero at = every-none j
+  every-of j (suc k) at =
+      every-later j k (at j (omega arith) (omega arith))
+      ∙ every-of (j + 1) k (λ i low high. at i (omega arith) (omega arith))
+
+  pub every-step : (j n : ℕ) → j < n → f j ≡ true → every f j (n - j) ≡ every f (j + 1) (n - (j + 1))
+  every-step j n l e =
+      let q : n - j ≡ suc (n - (j + 1)) = omega arith in
+      ap (every f j) q ∙ every-later j (n - (j + 1)) e
+
+  pub every-not : (j n : ℕ) → j < n → f j ≡ false → every f j (n - j) ≡ false
+  every-not j n l e =
+      let q : n - j ≡ suc (n - (j + 1)) = omega arith in
+      ap (every f j) q ∙ every-here j (n - (j + 1)) e
+
+  pub every-end : (j n : ℕ) → n ≤ j → every f j (n - j) ≡ true
+  every-end j n l =
+      let q : n - j ≡ 0 = omega arith in
+      ap (every f j) q ∙ every-none j

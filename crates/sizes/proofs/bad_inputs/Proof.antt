@@ -1,0 +1,20 @@
+-- `sizes::bad_inputs` meets its contract, by what `within` ensures. Assumes nothing.
+use mathlib.Core.Bool.{not}
+use mathlib.Core.Path.{ap}
+use borrow.Author.Needs.{needs}
+use Rattle.sizes.specs.Sizes.{badInputs}
+use Rattle.sizes.proofs.bad_inputs.Statement.{statement}
+use Rattle.sizes.proofs.bad_inputs.Tie as tie
+
+cast-d : tie.Need-cast-d
+cast-d c = search needs
+
+within-requires : tie.Need-within-requires
+within-requires c κs = search needs
+
+returns : tie.Need-returns
+unfolding badInputs
+returns c = ap not (c .within .ensures)
+
+pub bad-inputs-spec : {M : Type 1} → statement M
+bad-inputs-spec = tie.close (tie.spec cast-d within-requires returns)

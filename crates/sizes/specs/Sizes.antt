@@ -1,0 +1,30 @@
+-- Conditions on the sizes, each under document 01's number ('Refused because of the input').
+--   badOutput    2. m is not 1 to 64
+--   badInputs    3. d is not 1 to 8
+--   badWidths    5. a word-length byte breaks its rule: 1 to 64 for the first d, and 0 for the others
+--   maxInputs    the largest count of inputs, which is also the count of word-length bytes
+use mathlib.Core.Bool.{Bool, not, cond, _&&_}
+use Prim.Native.Nat.{ℕ}
+use lib.Dec.{leb, ltb, eqb}
+use lib.ListN.{getD}
+use Rattle.search.specs.Search.{every}
+use Rattle.sizes.specs.declared.Sizes.{Sizes}
+
+abbrev pub maxInputs : ℕ
+maxInputs = 8
+
+-- the number n is in the range from low to high, ends included
+abbrev pub within : ℕ → ℕ → ℕ → Bool
+within low high n = leb low n && leb n high
+
+unfoldable pub badOutput : Sizes → Bool
+badOutput z = not (within 1 64 (z .m))
+
+unfoldable pub badInputs : Sizes → Bool
+badInputs z = not (within 1 maxInputs (z .d))
+
+unfoldable pub widthRule : Sizes → ℕ → Bool
+widthRule z i = cond (ltb i (z .d)) (within 1 64 (getD (z .widths) i 0)) (eqb (getD (z .widths) i 0) 0)
+
+unfoldable pub badWidths : Sizes → Bool
+badWidths z = not (every (widthRule z) 0 maxInputs)

@@ -1,0 +1,72 @@
+// The sizes of a datapath, and the refusal that every call can answer.
+ghost use mathlib.Core.Path.{_≡_};
+ghost use Prim.Native.Nat.{_<_};
+ghost use Rattle.sizes.specs.Sizes.{within, maxInputs, badOutput, badInputs, badWidths, widthRule};
+
+// m, the output word length; d, the count of inputs; and the word lengths of the inputs.
+pub struct Sizes {
+    pub m: u8,
+    pub d: u8,
+    pub widths: [u8; 8],
+}
+
+// Document 01's refusal: its number, the file (1 or 2, else 0) and the step (else 0). Number 0: accepted.
+pub struct Refusal {
+    pub number: u64,
+    pub file: u64,
+    pub step: u64,
+}
+
+// Whether n is in the range from low to high, ends included.
+pub fn within(low: u64, high: u64, n: u64) -> bool
+    ensures { λ r. ⌜ r ≡ within low high n ⌝ }
+{
+    if n < low {
+        return false;
+    }
+    n <= high
+}
+
+// Whether m breaks condition 2: it is not 1 to 64.
+pub fn bad_output(z: Sizes) -> bool
+    ensures { λ r. ⌜ r ≡ badOutput z ⌝ }
+{
+    let m = z.m as u64;
+    !within(1, 64, m)
+}
+
+// Whether d breaks condition 3: it is not 1 to 8.
+pub fn bad_inputs(z: Sizes) -> bool
+    ensures { λ r. ⌜ r ≡ badInputs z ⌝ }
+{
+    let d = z.d as u64;
+    !within(1, 8, d)
+}
+
+// Whether word length i keeps its rule: 1 to 64 for one of the first d, else 0.
+fn width_rule(z: Sizes, i: usize) -> bool
+    requires { ⌜ i < maxInputs ⌝ }
+    ensures { λ r. ⌜ r ≡ widthRule z i ⌝ }
+{
+    let d = z.d as usize;
+    let widths = z.widths;
+    let width = widths[i];
+    if d <= i {
+        return width == 0;
+    }
+    within(1, 64, width as u64)
+}
+
+// Whether a word length breaks condition 5: 1 to 64 for the first d, 0 for the others.
+pub fn bad_widths(z: Sizes) -> bool
+    ensures { λ r. ⌜ r ≡ badWidths z ⌝ }
+{
+    let mut i = 0;
+    while i < 8 {
+        if !width_rule(z, i) {
+            return true;
+        }
+        i += 1;
+    }
+    false
+}

@@ -1,0 +1,1 @@
+// The grid theorem: its statement in specs/, its proof in proofs/. No code.

@@ -1,0 +1,31 @@
+-- A word stands for an integer modulo 2^64: the wrapping sum, difference and product of two words are the words of the exact sum,
+-- difference and product, and the cut of a word to m bits is the integer modulo 2^m, since 2^m divides 2^64.
+use mathlib.Core.Path.{_≡_, sym, _∙_, ap}
+use Prim.Native.Nat.{ℕ, _+_, _*_, _-_, _%_, _^_, _≤_, _<_}
+use native.Mathlib.Omega.{arith}
+use lib.IntN.{ℤ, _+ℤ_, _-ℤ_, _*ℤ_}
+use lib.Pow.{pow-pos, pow-add}
+use Rattle.integers.specs.Modulo.{remainder}
+use Rattle.integers.proofs.Remainder.{remainder-lt, remainder-add, remainder-sub, remainder-mul, remainder-coarse}
+use Rattle.words.specs.Words.{word}
+
+pub word-lt : (z : ℤ) → word z < 2 ^ 64
+word-lt z = remainder-lt z (2 ^ 64) (pow-pos 64)
+
+pub word-add : (a b : ℤ) → (word a + word b) % 2 ^ 64 ≡ word (a +ℤ b)
+word-add a b = sym (remainder-add a b (2 ^ 64) (pow-pos 64))
+
+-- as the supplied wrapping subtraction states its result: the word that added to b's wraps back to a's
+pub word-sub : (r : ℕ) (a b : ℤ) → r < 2 ^ 64 → (r + word b) % 2 ^ 64 ≡ word a → r ≡ word (a -ℤ b)
+word-sub r a b h e = omega (arith, remainder-sub a b (2 ^ 64) (pow-pos 64), word-lt a, word-lt b)
+
+pub word-mul : (a b : ℤ) → (word a * word b) % 2 ^ 64 ≡ word (a *ℤ b)
+word-mul a b = sym (remainder-mul a b (2 ^ 64) (pow-pos 64))
+
+pub word-cut : (z : ℤ) (m : ℕ) → m ≤ 64 → word z % 2 ^ m ≡ remainder z (2 ^ m)
+word-cut z m h =
+    ap (λ M. remainder z M % 2 ^ m) (ap (λ k. 2 ^ k) split ∙ pow-add 2 (64 - m) m)
+    ∙ remainder-coarse z (2 ^ (64 - m)) (2 ^ m) (pow-pos (64 - m)) (pow-pos m)
+  where
+    split : 64 ≡ 64 - m + m
+    split = omega arith

@@ -1,0 +1,31 @@
+-- `words::le32` meets its contract: two numbers of half the bytes, joined. Assumes nothing.
+use native.Mathlib.Omega.{arith}
+use borrow.Author.Needs.{needs}
+use denote.Ref.{now}
+use Rattle.words.proofs.Bytes.{little-join}
+use Rattle.words.proofs.le32.Statement.{statement}
+use Rattle.words.proofs.le32.Tie as tie
+
+le16-requires : tie.Need-le16-requires
+le16-requires c κs = search needs
+
+add-le16 : tie.Need-add-le16
+add-le16 c = search needs
+
+le16-requires-2 : tie.Need-le16-requires-2
+le16-requires-2 c κs = search needs
+
+mul-result : tie.Need-mul-result
+mul-result c = search needs
+
+add-result : tie.Need-add-result
+add-result c = search needs
+
+returns : tie.Need-returns
+returns c =
+    let a = c .before .before .before .args in
+    omega (arith, little-join 2 2 (now (a .s)) (a .i))
+
+pub le32-spec : {M : Type 1} → statement M
+le32-spec =
+    tie.close (tie.spec le16-requires add-le16 le16-requires-2 mul-result add-result returns)

@@ -1,0 +1,64 @@
+//! Files cut, lengthened, and changed byte by byte; each compared in all calls.
+
+use crate::bench::{Bench, Outcome};
+use crate::refusals::plain;
+use reference::expression::{falling, x};
+use reference::file::{STEPS, length};
+use reference::pairs::{SAMPLE_A, SAMPLE_B};
+use reference::sizes::INPUTS;
+
+/// Small files that between them hold every operation, one input and eight, m 1 and 64.
+fn small_files() -> Vec<Vec<u8>> {
+    vec![
+        SAMPLE_A.to_vec(),
+        SAMPLE_B.to_vec(),
+        plain(1, &[1], 1),
+        (falling(x(1), 2) + 3).file(8, &[8]),
+        (x(8) * 5 - x(1)).file(64, &[1, 64, 2, 63, 3, 62, 4, 61]),
+    ]
+}
+
+/// All calls, with a vector and a scratch slice that a sound file of these sizes takes.
+fn compare(bench: &mut Bench, file: &[u8], inputs: usize) -> Outcome {
+    bench.file_calls(file)?;
+    bench.evaluate(file, &vec![1; inputs], &[u64::MAX; 20])?;
+    bench.evaluate(file, &vec![0; inputs], &[3; 4])?;
+    Ok(())
+}
+
+/// Every length from 0 up to the file's own, then on past the longest file there is.
+pub fn lengths(bench: &mut Bench) -> Outcome {
+    for file in small_files() {
+        let inputs = usize::from(file[1]);
+        for cut in 0..=file.len() {
+            compare(bench, &file[..cut], inputs)?;
+        }
+        let mut longer = file.clone();
+        while longer.len() < length(STEPS) + 100 {
+            longer.push(longer.len() as u8);
+            compare(bench, &longer, inputs)?;
+        }
+    }
+    let mut largest = plain(64, &[64; INPUTS], STEPS);
+    compare(bench, &largest, INPUTS)?;
+    for extra in [1, 8, 9, 1000] {
+        largest.resize(length(STEPS) + extra, 0);
+        bench.refuses(&largest, [6, 1, 0])?;
+    }
+    Ok(())
+}
+
+/// Every byte of every small file, at each of the 255 other values.
+pub fn bytes(bench: &mut Bench) -> Outcome {
+    for file in small_files() {
+        let inputs = usize::from(file[1]);
+        for place in 0..file.len() {
+            let mut damaged = file.clone();
+            for change in 1..=255 {
+                damaged[place] = file[place] ^ change;
+                compare(bench, &damaged, inputs)?;
+            }
+        }
+    }
+    Ok(())
+}

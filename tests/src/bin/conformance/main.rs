@@ -1,0 +1,90 @@
+//! The test program: the product's static library held against the reference.
+//!
+//! Prints a line for each group of tests, `ok NAME: K comparisons` or `FAILED NAME: what`, and
+//! last `N passed, M failed`, which counts the groups. Ends with status 1 where one has failed.
+//!
+//! | Module | Subject |
+//! |---|---|
+//! | `lent` | memory lent to the product, guarded on both sides |
+//! | `product` | the C functions, every call with its guards |
+//! | `bench` | one call of the product compared with the reference |
+//! | `refusals` | each refusal at the first and at the last place where it can occur |
+//! | `precedence` | which refusal comes first where several conditions hold |
+//! | `damage` | files cut, lengthened, and changed byte by byte |
+//! | `soak` | random files |
+//! | `grids` | bounds and grids of all sizes |
+//! | `replay` | the pairs of document 01 and the examples of document 002 |
+
+mod bench;
+mod damage;
+mod grids;
+mod lent;
+mod precedence;
+mod product;
+mod refusals;
+mod replay;
+mod soak;
+
+use bench::{Bench, Outcome};
+use std::panic::{self, AssertUnwindSafe};
+use std::process::ExitCode;
+
+type Group = fn(&mut Bench) -> Outcome;
+
+/// The groups, with the seeds of those that draw numbers.
+const GROUPS: [(&str, Option<u64>, Group); 16] = [
+    ("head refused", None, refusals::head),
+    ("lengths refused", None, refusals::lengths),
+    ("operations refused", None, refusals::operations),
+    ("arguments refused", None, refusals::arguments),
+    ("limits accepted", None, refusals::limits),
+    ("scratch refused", None, refusals::scratch),
+    ("vectors refused", None, refusals::vectors),
+    ("precedence of refusals", None, precedence::subsets),
+    ("truncated and lengthened files", None, damage::lengths),
+    ("damaged bytes", None, damage::bytes),
+    ("bounds", None, grids::bounds),
+    ("grids", Some(grids::SEED), grids::grids),
+    ("pairs of document 01", None, replay::pairs),
+    ("outputs of document 002", None, replay::outputs),
+    (
+        "equivalences of document 002",
+        Some(replay::SEED),
+        replay::examples,
+    ),
+    ("random files", Some(soak::SEED), soak::files),
+];
+
+fn main() -> ExitCode {
+    panic::set_hook(Box::new(|_| {}));
+    let mut failed = 0;
+    for (name, seed, group) in GROUPS {
+        let name = match seed {
+            Some(seed) => format!("{name} (seed {seed:#x})"),
+            None => String::from(name),
+        };
+        match run(group) {
+            Ok(comparisons) => println!("ok {name}: {comparisons} comparisons"),
+            Err(what) => {
+                failed += 1;
+                println!("FAILED {name}: {what}");
+            }
+        }
+    }
+    println!("{} passed, {failed} failed", GROUPS.len() - failed);
+    ExitCode::from(u8::from(failed > 0))
+}
+
+/// Runs a group on a bench of its own. A panic is a failure with its message.
+fn run(group: Group) -> Outcome<u64> {
+    let mut bench = Bench::new();
+    let outcome = panic::catch_unwind(AssertUnwindSafe(|| group(&mut bench)));
+    match outcome {
+        Ok(Ok(())) if bench.comparisons() == 0 => Err(String::from("nothing was compared")),
+        Ok(result) => result.map(|()| bench.comparisons()),
+        Err(payload) => Err(match payload.downcast_ref::<String>() {
+            Some(message) => format!("panic: {message}"),
+            None => format!("panic: {:?}", payload.downcast_ref::<&str>()),
+        }),
+    }
+}

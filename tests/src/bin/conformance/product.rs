@@ -1,0 +1,166 @@
+//! The product's C functions, every call with its guards.
+//!
+//! Each wrapper first calls with answer slices of wrong lengths, none, one short and one long, and
+//! asks that the call returns 0 and touches nothing. Then it calls with the right length, asks for
+//! 1, and that nothing was touched but the answer and, where the function writes it, the scratch
+//! slice.
+
+use crate::bench::Outcome;
+use crate::lent::{Fence, Lent};
+
+unsafe extern "C" {
+    fn corkbingo_check(file: *const u8, file_len: usize, out: *mut u64, out_len: usize) -> u32;
+
+    fn corkbingo_operations(file: *const u8, file_len: usize, out: *mut u64, out_len: usize)
+    -> u32;
+
+    fn corkbingo_bound(m: u64, out: *mut u64, out_len: usize) -> u32;
+
+    fn corkbingo_grid(file: *const u8, file_len: usize, out: *mut u64, out_len: usize) -> u32;
+
+    fn corkbingo_evaluate(
+        file: *const u8,
+        file_len: usize,
+        vector: *const u64,
+        vector_len: usize,
+        scratch: *mut u64,
+        scratch_len: usize,
+        out: *mut u64,
+        out_len: usize,
+    ) -> u32;
+}
+
+type FileFunction = unsafe extern "C" fn(*const u8, usize, *mut u64, usize) -> u32;
+
+/// The longest file and the longest vector, in bytes, that a test lends.
+const LONGEST_FILE: usize = 16_384;
+const LONGEST_VECTOR: usize = 4_096;
+
+pub struct Product {
+    file: Fence,
+    vector: Fence,
+}
+
+impl Product {
+    pub fn new() -> Product {
+        Product {
+            file: Fence::new(LONGEST_FILE),
+            vector: Fence::new(LONGEST_VECTOR),
+        }
+    }
+
+    pub fn check(&mut self, file: &[u8]) -> Outcome<[u64; 3]> {
+        self.file_call("check", corkbingo_check, file)
+    }
+
+    pub fn operations(&mut self, file: &[u8]) -> Outcome<[u64; 2]> {
+        self.file_call("operations", corkbingo_operations, file)
+    }
+
+    pub fn grid(&mut self, file: &[u8]) -> Outcome<[u64; 12]> {
+        self.file_call("grid", corkbingo_grid, file)
+    }
+
+    pub fn bound(&mut self, m: u64) -> Outcome<[u64; 4]> {
+        // SAFETY: the slice is lent as pointer and length.
+        let mut call = |out, length| unsafe { corkbingo_bound(m, out, length) };
+        wrong_lengths("bound", 4, &mut call)?;
+        right_length("bound", &mut call)
+    }
+
+    /// The answer, and the scratch slice after the call.
+    pub fn evaluate(
+        &mut self,
+        file: &[u8],
+        vector: &[u64],
+        scratch: &[u64],
+    ) -> Outcome<([u64; 4], Vec<u64>)> {
+        let name = "evaluate";
+        let bytes = self.file.place(file);
+        let entries = self.vector.place_words(vector);
+        let mut lent = Lent::new(scratch);
+        let work = lent.pointer();
+        // SAFETY: each slice is lent as pointer and length, and no two of them overlap.
+        let mut call = |out, length| unsafe {
+            corkbingo_evaluate(
+                bytes,
+                file.len(),
+                entries,
+                vector.len(),
+                work,
+                scratch.len(),
+                out,
+                length,
+            )
+        };
+        wrong_lengths(name, 4, &mut call)?;
+        ask(lent.untouched(scratch), || {
+            format!("{name}: a wrong answer length, yet the scratch slice was touched")
+        })?;
+        let answer = right_length(name, &mut call)?;
+        ask(lent.guarded(), || {
+            format!("{name}: wrote beside the scratch slice")
+        })?;
+        self.file_unchanged(name, file)?;
+        ask(self.vector.holds_words(vector), || {
+            format!("{name}: wrote to the vector")
+        })?;
+        Ok((answer, lent.content().to_vec()))
+    }
+
+    fn file_call<const LENGTH: usize>(
+        &mut self,
+        name: &str,
+        function: FileFunction,
+        file: &[u8],
+    ) -> Outcome<[u64; LENGTH]> {
+        let bytes = self.file.place(file);
+        // SAFETY: each slice is lent as pointer and length, and the two do not overlap.
+        let mut call = |out, length| unsafe { function(bytes, file.len(), out, length) };
+        wrong_lengths(name, LENGTH, &mut call)?;
+        let answer = right_length(name, &mut call)?;
+        self.file_unchanged(name, file)?;
+        Ok(answer)
+    }
+
+    fn file_unchanged(&self, name: &str, file: &[u8]) -> Outcome {
+        ask(self.file.holds(file), || {
+            format!("{name}: wrote to the file")
+        })
+    }
+}
+
+fn ask(holds: bool, what: impl FnOnce() -> String) -> Outcome {
+    if holds { Ok(()) } else { Err(what()) }
+}
+
+fn wrong_lengths(
+    name: &str,
+    length: usize,
+    call: &mut impl FnMut(*mut u64, usize) -> u32,
+) -> Outcome {
+    for wrong in [0, length - 1, length + 1] {
+        let mut out = Lent::blank(wrong);
+        let returned = call(out.pointer(), wrong);
+        ask(returned == 0, || {
+            format!("{name}: returned {returned} for an answer of {wrong} words")
+        })?;
+        ask(out.blank_still(), || {
+            format!("{name}: touched an answer of {wrong} words")
+        })?;
+    }
+    Ok(())
+}
+
+fn right_length<const LENGTH: usize>(
+    name: &str,
+    call: &mut impl FnMut(*mut u64, usize) -> u32,
+) -> Outcome<[u64; LENGTH]> {
+    let mut out = Lent::blank(LENGTH);
+    let returned = call(out.pointer(), LENGTH);
+    ask(returned == 1, || {
+        format!("{name}: returned {returned} for an answer of {LENGTH} words")
+    })?;
+    ask(out.guarded(), || format!("{name}: wrote beside the answer"))?;
+    Ok(std::array::from_fn(|index| out.content()[index]))
+}

@@ -1,0 +1,221 @@
+//! Each refusal at the first and at the last place where it can occur, with the number, file and
+//! step that document 01 gives it; and the values next to it, which are accepted.
+
+use crate::bench::{Bench, Outcome};
+use reference::file::{Datapath, HEAD, STEPS, Step, length, write};
+use reference::sizes::{INPUTS, Sizes};
+
+/// A sound file of `count` steps, all of them inputs, and of any sizes.
+pub fn plain(m: u64, widths: &[u64], count: usize) -> Vec<u8> {
+    let widths = widths.to_vec();
+    let steps = (0..count).map(|step| Step::Input(step % widths.len()));
+    write(&Datapath {
+        steps: steps.collect(),
+        sizes: Sizes { m, widths },
+    })
+}
+
+/// The file with this operation and this argument at the step.
+fn with_step(file: &[u8], step: usize, operation: u8, argument: u64) -> Vec<u8> {
+    let mut bytes = file.to_vec();
+    let count = (bytes.len() - HEAD) / 9;
+    bytes[HEAD + step] = operation;
+    let start = HEAD + count + 8 * step;
+    bytes[start..start + 8].copy_from_slice(&argument.to_le_bytes());
+    bytes
+}
+
+fn with_byte(file: &[u8], place: usize, byte: u8) -> Vec<u8> {
+    let mut bytes = file.to_vec();
+    bytes[place] = byte;
+    bytes
+}
+
+/// The smallest file and the largest one.
+fn ends() -> [Vec<u8>; 2] {
+    [plain(1, &[1], 1), plain(64, &[64; INPUTS], STEPS)]
+}
+
+/// Numbers 2 to 5, and the sizes at both ends of their ranges.
+pub fn head(bench: &mut Bench) -> Outcome {
+    for file in ends() {
+        bench.accepts(&file)?;
+        for m in [0, 65, 128, 255] {
+            bench.refuses(&with_byte(&file, 0, m), [2, 1, 0])?;
+        }
+        for d in [0, 9, 64, 255] {
+            bench.refuses(&with_byte(&file, 1, d), [3, 1, 0])?;
+        }
+        for count in [0u16, 1025, 1280, 0x8000, 0x8001, 0xffff] {
+            let [low, high] = count.to_le_bytes();
+            let file = with_byte(&with_byte(&file, 2, low), 3, high);
+            bench.refuses(&file, [4, 1, 0])?;
+        }
+    }
+    for d in 1..=INPUTS {
+        let file = plain(7, &vec![64; d], 3);
+        for input in 0..INPUTS {
+            let wrong: &[u8] = if input < d {
+                &[0, 65, 255]
+            } else {
+                &[1, 64, 255]
+            };
+            for &width in wrong {
+                bench.refuses(&with_byte(&file, 4 + input, width), [5, 1, 0])?;
+            }
+        }
+        for width in [1, 64] {
+            bench.accepts(&plain(7, &vec![width; d], 3))?;
+        }
+    }
+    (1..=64).try_for_each(|m| bench.accepts(&plain(m, &[3], 2)))
+}
+
+/// Numbers 1 and 6, at every count of steps.
+pub fn lengths(bench: &mut Bench) -> Outcome {
+    let largest = plain(64, &[64; INPUTS], STEPS);
+    for short in 0..HEAD {
+        bench.refuses(&largest[..short], [1, 1, 0])?;
+        bench.refuses(&vec![0; short], [1, 1, 0])?;
+    }
+    bench.refuses(&largest[..HEAD], [6, 1, 0])?;
+    for count in 1..=STEPS {
+        let mut file = plain(9, &[5, 6], count);
+        bench.accepts(&file)?;
+        file.push(1);
+        bench.refuses(&file, [6, 1, 0])?;
+        bench.refuses(&file[..length(count) - 1], [6, 1, 0])?;
+    }
+    Ok(())
+}
+
+/// Number 7 at every step, and each sound operation.
+pub fn operations(bench: &mut Bench) -> Outcome {
+    for count in [1, 2, 9, STEPS] {
+        let file = plain(8, &[8, 8], count);
+        for step in 0..count {
+            let refusal = [7, 1, step as u64];
+            bench.refuses(&with_step(&file, step, 0, 0), refusal)?;
+            bench.refuses(&with_step(&file, step, 6, 0), refusal)?;
+        }
+        for operation in 6..=255 {
+            let wrong = with_step(&file, count - 1, operation, u64::MAX);
+            bench.refuses(&wrong, [7, 1, count as u64 - 1])?;
+        }
+        for operation in 1..=5 {
+            let sound = with_step(&file, count - 1, operation, 0);
+            match (count, operation) {
+                (1, 3..) => bench.refuses(&sound, [8, 1, 0])?,
+                _ => bench.accepts(&sound)?,
+            }
+        }
+    }
+    Ok(())
+}
+
+/// Number 8 at the first and at the last step, by each part of each rule.
+pub fn arguments(bench: &mut Bench) -> Outcome {
+    for count in [1, 2, 300, STEPS] {
+        let file = plain(8, &[8, 8], count);
+        for step in [0, count - 1] {
+            let own = step as u64;
+            let mut wrong = vec![(1, 2), (1, 255), (1, 256), (2, 256), (2, u64::MAX)];
+            for bit in [8, 16, 32, 63] {
+                wrong.extend([(1, 1 << bit), (2, 1 << bit)]);
+            }
+            for operation in 3..=5 {
+                let sides = [own, own << 16, own | own << 16, own + 1, (own + 1) << 16];
+                wrong.extend(sides.map(|argument| (operation, argument)));
+                wrong.extend([(operation, 0xffff), (operation, 0xffff_0000)]);
+                wrong.extend((32..64).map(|bit| (operation, 1 << bit)));
+            }
+            for (operation, argument) in wrong {
+                let file = with_step(&file, step, operation, argument);
+                bench.refuses(&file, [8, 1, own])?;
+            }
+        }
+    }
+    for d in 1..=INPUTS {
+        let file = plain(8, &vec![8; d], 2);
+        bench.refuses(&with_step(&file, 0, 1, d as u64), [8, 1, 0])?;
+        bench.refuses(&with_step(&file, 1, 1, d as u64), [8, 1, 1])?;
+        bench.refuses(&with_step(&file, 1, 1, (1 << 32) + 1), [8, 1, 1])?;
+    }
+    for m in 1..64 {
+        let file = plain(m, &[8], 2);
+        bench.refuses(&with_step(&file, 0, 2, 1 << m), [8, 1, 0])?;
+        bench.refuses(&with_step(&file, 1, 2, u64::MAX), [8, 1, 1])?;
+    }
+    Ok(())
+}
+
+/// Arguments at the ends of what the rules allow.
+pub fn limits(bench: &mut Bench) -> Outcome {
+    for count in [2, 300, STEPS] {
+        let file = plain(8, &[8; INPUTS], count);
+        let before = count as u64 - 2;
+        for operation in 3..=5 {
+            for argument in [0, before, before << 16, before | before << 16] {
+                let file = with_step(&file, count - 1, operation, argument);
+                bench.accepts(&file)?;
+                bench.output(&file, &[255; INPUTS])?;
+            }
+        }
+    }
+    for m in 1..=64 {
+        let greatest = u64::MAX >> (64 - m);
+        let file = with_step(&plain(m, &[8], 1), 0, 2, greatest);
+        bench.accepts(&file)?;
+        let output = bench.output(&file, &[0])?;
+        bench.same(&output, &greatest, || {
+            format!("the greatest constant, m {m}")
+        })?;
+    }
+    for d in 1..=INPUTS {
+        let file = with_step(&plain(8, &vec![8; d], 1), 0, 1, d as u64 - 1);
+        let mut vector = vec![0; d];
+        vector[d - 1] = 77;
+        let output = bench.output(&file, &vector)?;
+        bench.same(&output, &77, || format!("the last input, d {d}"))?;
+    }
+    Ok(())
+}
+
+/// Number 12, and scratch slices of just the right length and longer.
+pub fn scratch(bench: &mut Bench) -> Outcome {
+    for count in [1, 2, 300, STEPS - 1, STEPS] {
+        let file = plain(8, &[8], count);
+        for short in [0, count / 2, count - 1] {
+            bench.evaluates(&file, &[9], short, [12, 0, 0])?;
+        }
+        for enough in [count, count + 1, count + 3, 2 * count] {
+            bench.evaluates(&file, &[9], enough, [0, 0, 0])?;
+        }
+    }
+    Ok(())
+}
+
+/// Number 14: every wrong length, and each input at both ends of its range and past it.
+pub fn vectors(bench: &mut Bench) -> Outcome {
+    for d in 1..=INPUTS {
+        let file = plain(8, &vec![8; d], 3);
+        for length in (0..=20).chain([100, 512]) {
+            let refusal = if length == d { [0, 0, 0] } else { [14, 0, 0] };
+            bench.evaluates(&file, &vec![1; length], 3, refusal)?;
+        }
+        for n in 1..=64 {
+            let file = plain(64, &vec![n; d], 3);
+            let greatest = u64::MAX >> (64 - n);
+            bench.evaluates(&file, &vec![0; d], 3, [0, 0, 0])?;
+            bench.evaluates(&file, &vec![greatest; d], 3, [0, 0, 0])?;
+            for input in (0..d).filter(|_| n < 64) {
+                let mut vector = vec![greatest; d];
+                for past in [greatest + 1, u64::MAX] {
+                    vector[input] = past;
+                    bench.evaluates(&file, &vector, 3, [14, 0, 0])?;
+                }
+            }
+        }
+    }
+    Ok(())
+}

@@ -1,0 +1,96 @@
+//! The pairs of document 01 and the examples of document 002, replayed with the product's outputs.
+
+use crate::bench::{Bench, Outcome};
+use reference::compare::{Comparison, Verdict, compare};
+use reference::examples;
+use reference::file::read;
+use reference::grid::axes;
+use reference::pairs::{self, Pair};
+use reference::random::Random;
+use reference::samples;
+use reference::sizes::Sizes;
+
+pub const SEED: u64 = 0x002_5eed;
+
+/// Inputs of so many bits together are run at every full-width vector.
+const EXHAUSTIVE_BITS: u64 = 16;
+
+/// Wider equivalent pairs are run at so many random full-width vectors.
+const SAMPLES: usize = 1_000;
+
+pub fn pairs(bench: &mut Bench) -> Outcome {
+    for pair in pairs::pairs() {
+        let sizes = replay(bench, &pair)?;
+        exhaust(bench, &pair, &sizes)?;
+    }
+    Ok(())
+}
+
+pub fn examples(bench: &mut Bench) -> Outcome {
+    let mut random = Random::new(SEED);
+    for pair in examples::pairs() {
+        let sizes = replay(bench, &pair)?;
+        if sizes.widths.iter().sum::<u64>() <= EXHAUSTIVE_BITS {
+            exhaust(bench, &pair, &sizes)?;
+            continue;
+        }
+        bench.same(&pair.expected.verdict, &Verdict::Equivalent, || {
+            format!("{}: only an equivalent pair is sampled", pair.name)
+        })?;
+        for _ in 0..SAMPLES {
+            let vector = samples::vector(&mut random, &sizes);
+            let [left, right] = both(bench, &pair, &vector)?;
+            bench.same(&left, &right, || format!("{} at {vector:?}", pair.name))?;
+        }
+    }
+    Ok(())
+}
+
+pub fn outputs(bench: &mut Bench) -> Outcome {
+    for example in examples::outputs() {
+        let file = example.polynomial.file(example.m, &example.widths);
+        for (vector, expected) in example.outputs {
+            let output = bench.output(&file, &vector)?;
+            bench.same(&output, &expected, || {
+                format!("{} at {vector:?}", example.name)
+            })?;
+        }
+    }
+    Ok(())
+}
+
+/// Runs the pair over the product's grid; verdict, vector, outputs and count are the expected ones.
+fn replay(bench: &mut Bench, pair: &Pair) -> Outcome<Sizes> {
+    let sizes = read(&pair.files[0], 1)
+        .map_err(|refusal| format!("{refusal:?}"))?
+        .sizes;
+    let [left, right] = [bench.grid(&pair.files[0])?, bench.grid(&pair.files[1])?];
+    bench.same(&left, &right, || format!("grids of {}", pair.name))?;
+    let grid = &left[3..3 + sizes.d()];
+    bench.same(grid, &axes(&sizes), || format!("axes of {}", pair.name))?;
+    let found = run(bench, pair, grid)?;
+    bench.same(&found, &pair.expected, || String::from(pair.name))?;
+    if found.verdict == Verdict::Equivalent {
+        bench.same(&found.run, &left[11], || format!("G of {}", pair.name))?;
+    }
+    Ok(sizes)
+}
+
+/// Runs the pair at all full-width vectors: the verdict, its vector and outputs are the grid's.
+fn exhaust(bench: &mut Bench, pair: &Pair, sizes: &Sizes) -> Outcome {
+    let ranges: Vec<u64> = sizes.widths.iter().map(|&n| 1 << n).collect();
+    let found = run(bench, pair, &ranges)?;
+    bench.same(&found.verdict, &pair.expected.verdict, || {
+        format!("{} at all full-width vectors", pair.name)
+    })
+}
+
+fn run(bench: &mut Bench, pair: &Pair, bounds: &[u64]) -> Outcome<Comparison> {
+    compare(bounds, |vector| both(bench, pair, vector))
+}
+
+/// The two outputs by the product, each compared with the reference's.
+fn both(bench: &mut Bench, pair: &Pair, vector: &[u64]) -> Outcome<[u64; 2]> {
+    let left = bench.output(&pair.files[0], vector)?;
+    Ok([left, bench.output(&pair.files[1], vector)?])
+}

@@ -1,0 +1,110 @@
+//! What the C functions answer, in the layouts of include/corkbingo.h.
+
+use crate::bound;
+use crate::file::{Refusal, operations as stretch, read};
+use crate::grid;
+use crate::sizes::{INPUTS, sound_m};
+use crate::value;
+
+const ACCEPTED: Refusal = Refusal {
+    number: 0,
+    file: 0,
+    step: 0,
+};
+
+fn words(refusal: Refusal) -> [u64; 3] {
+    [refusal.number, refusal.file, refusal.step]
+}
+
+/// Number, file, step.
+pub fn check(file: &[u8]) -> [u64; 3] {
+    words(read(file, 1).err().unwrap_or(ACCEPTED))
+}
+
+/// Start and length of the operation stretch.
+pub fn operations(file: &[u8]) -> [u64; 2] {
+    let (start, length) = stretch(file);
+    [start as u64, length as u64]
+}
+
+/// Number, file, step, L(m).
+pub fn bound(m: u64) -> [u64; 4] {
+    if sound_m(m) {
+        [0, 0, 0, bound::bound(m)]
+    } else {
+        [2, 0, 0, 0]
+    }
+}
+
+/// Number, file, step, u1 to u8, G.
+pub fn grid(file: &[u8]) -> [u64; 4 + INPUTS] {
+    let mut answer = [0; 4 + INPUTS];
+    match read(file, 1) {
+        Err(refusal) => answer[..3].copy_from_slice(&words(refusal)),
+        Ok(path) => {
+            let axes = grid::axes(&path.sizes);
+            answer[3..3 + axes.len()].copy_from_slice(&axes);
+            answer[3 + INPUTS] = grid::size(&axes);
+        }
+    }
+    answer
+}
+
+#[derive(Clone, Debug, PartialEq, Eq)]
+pub struct Evaluation {
+    /// Number, file, step, output.
+    pub answer: [u64; 4],
+    /// The scratch slice after the call.
+    pub scratch: Vec<u64>,
+    /// Whether exact values confirm the output.
+    pub exact: bool,
+}
+
+/// The conditions 1 to 8, then 12, then 14. An accepted call clears the first N scratch entries, a
+/// refused one none.
+pub fn evaluate(file: &[u8], vector: &[u64], scratch: &[u64]) -> Evaluation {
+    let mut scratch = scratch.to_vec();
+    let path = match read(file, 1) {
+        Ok(path) if scratch.len() < path.steps.len() => Err(Refusal::plain(12)),
+        Ok(path) if !path.sizes.full_width(vector) => Err(Refusal::plain(14)),
+        verdict => verdict,
+    };
+    let (refusal, output, exact) = match path {
+        Err(refusal) => (refusal, 0, false),
+        Ok(path) => {
+            scratch[..path.steps.len()].fill(0);
+            let found = value::output(&path, vector);
+            (ACCEPTED, found.output, found.exact)
+        }
+    };
+    let [number, file, step] = words(refusal);
+    Evaluation {
+        answer: [number, file, step, output],
+        scratch,
+        exact,
+    }
+}
+
+#[cfg(test)]
+mod tests {
+    use super::*;
+    use crate::pairs::SAMPLE_A;
+
+    #[test]
+    fn answers_of_the_sample() {
+        assert_eq!(check(&SAMPLE_A), [0, 0, 0]);
+        assert_eq!(operations(&SAMPLE_A), [12, 3]);
+        assert_eq!(grid(&SAMPLE_A), [0, 0, 0, 2, 4, 0, 0, 0, 0, 0, 0, 8]);
+        let done = evaluate(&SAMPLE_A, &[1, 3], &[7, 7, 7, 7]);
+        assert_eq!((done.answer, done.exact), ([0, 0, 0, 3], true));
+        assert_eq!(done.scratch, [0, 0, 0, 7]);
+    }
+
+    #[test]
+    fn scratch_comes_before_the_vector() {
+        let refused = evaluate(&SAMPLE_A, &[1], &[7, 7]);
+        assert_eq!(refused.answer, [12, 0, 0, 0]);
+        assert_eq!(refused.scratch, [7, 7]);
+        assert_eq!(evaluate(&SAMPLE_A, &[1, 4], &[7; 3]).answer, [14, 0, 0, 0]);
+    }
+}

@@ -1,0 +1,198 @@
+//! Random files, sound and damaged, and vectors for them.
+//!
+//! Most multiply-heavy files keep their exact values short: operands are spread over all steps
+//! before, or products are by inputs and constants only, as in Horner's scheme. `Shape::Powers`
+//! multiplies what it has just made; from some twenty steps on its values pass `EXACT_BITS`, and
+//! the reference has only remainders for them.
+
+use crate::file::{Datapath, HEAD, STEPS, Step, length, write};
+use crate::random::Random;
+use crate::sizes::{INPUTS, Sizes};
+
+/// How the steps of a random file hang together.
+#[derive(Clone, Copy, Debug)]
+pub enum Shape {
+    /// All operations, operands anywhere before.
+    Spread,
+    /// Each step takes the last one on, by an input or a constant.
+    Horner,
+    /// Sums and differences of one of the last steps and any step.
+    Sums,
+    /// Products of two of the last steps; sums with an input or a constant between.
+    Powers,
+}
+
+pub const SHAPES: [Shape; 4] = [Shape::Spread, Shape::Horner, Shape::Sums, Shape::Powers];
+
+/// The greatest value of an input of n bits.
+pub fn top(n: u64) -> u64 {
+    u64::MAX >> (64 - n)
+}
+
+/// Sizes with this m. Word lengths of 1, of 64, of m and of any number occur.
+pub fn sizes(random: &mut Random, m: u64) -> Sizes {
+    let d = random.between(1, INPUTS as u64);
+    let mut width = || match random.below(5) {
+        0 => 1,
+        1 => 64,
+        2 => m,
+        _ => random.between(1, 64),
+    };
+    let widths = (0..d).map(|_| width()).collect();
+    Sizes { m, widths }
+}
+
+/// A sound file of `count` steps.
+pub fn file(random: &mut Random, sizes: &Sizes, count: usize, shape: Shape) -> Vec<u8> {
+    let step = |index| step(random, sizes, index, shape);
+    let path = Datapath {
+        sizes: sizes.clone(),
+        steps: (0..count).map(step).collect(),
+    };
+    write(&path)
+}
+
+/// Shapes other than `Spread` begin with so many inputs and constants.
+const LEAVES: usize = 4;
+
+fn step(random: &mut Random, sizes: &Sizes, index: usize, shape: Shape) -> Step {
+    let leading = match shape {
+        Shape::Spread => index == 0 || random.chance(30),
+        _ => index < LEAVES,
+    };
+    if leading {
+        return leaf(random, sizes);
+    }
+    let product = random.chance(match shape {
+        Shape::Spread => 25,
+        Shape::Horner => 50,
+        Shape::Sums => 0,
+        Shape::Powers => 60,
+    });
+    let recent = |random: &mut Random| index - 1 - random.index(LEAVES);
+    let (left, right) = match shape {
+        Shape::Spread => (random.index(index), random.index(index)),
+        Shape::Horner => (index - 1, random.index(LEAVES)),
+        Shape::Sums => (recent(random), random.index(index)),
+        Shape::Powers if product => (recent(random), recent(random)),
+        Shape::Powers => (recent(random), random.index(LEAVES)),
+    };
+    if product {
+        return Step::Multiply(left, right);
+    }
+    match random.below(4) {
+        0 | 1 => Step::Add(left, right),
+        2 => Step::Subtract(left, right),
+        _ => Step::Subtract(right, left),
+    }
+}
+
+fn leaf(random: &mut Random, sizes: &Sizes) -> Step {
+    if random.chance(60) {
+        Step::Input(random.index(sizes.d()))
+    } else {
+        Step::Constant(random.edged_word() & top(sizes.m))
+    }
+}
+
+/// A full-width vector: each entry at the lower end, at the upper end or between.
+pub fn vector(random: &mut Random, sizes: &Sizes) -> Vec<u64> {
+    let mut entry = |&n: &u64| match random.below(4) {
+        0 => 0,
+        1 => top(n),
+        _ => random.word() & top(n),
+    };
+    sizes.widths.iter().map(&mut entry).collect()
+}
+
+/// Damages a file; now and then it stays sound. A file too short for a step stays as it is.
+pub fn damage(random: &mut Random, bytes: &mut Vec<u8>) {
+    if bytes.len() < length(1) {
+        return;
+    }
+    let count = (bytes.len() - HEAD) / 9;
+    let step = match random.below(4) {
+        0 => 0,
+        1 => count - 1,
+        _ => random.index(count),
+    };
+    match random.below(10) {
+        0 => {
+            let place = random.index(bytes.len());
+            bytes[place] = random.word() as u8;
+        }
+        1 => {
+            let place = random.index(HEAD);
+            bytes[place] = random.pick(&[0, 1, 8, 9, 64, 65, 255]);
+        }
+        2 => {
+            let number = random.pick(&[0, count - 1, count + 1, STEPS + 1]) as u16;
+            bytes[2..4].copy_from_slice(&number.to_le_bytes());
+        }
+        3 => {
+            let rest = random.index(bytes.len());
+            bytes.truncate(rest);
+        }
+        4 => {
+            let longer = bytes.len() + random.index(20) + 1;
+            bytes.resize_with(longer, || random.word() as u8);
+        }
+        5 => bytes[0] = random.between(1, u64::from(bytes[0])) as u8,
+        6 | 7 => bytes[HEAD + step] = random.pick(&[0, 1, 2, 3, 4, 5, 6, 255]),
+        _ => {
+            let argument = bad_argument(random, step as u64);
+            let start = HEAD + count + 8 * step;
+            bytes[start..start + 8].copy_from_slice(&argument.to_le_bytes());
+        }
+    }
+}
+
+/// An argument that breaks the rule of at least one operation at this step.
+fn bad_argument(random: &mut Random, step: u64) -> u64 {
+    match random.below(6) {
+        0 => step,
+        1 => step << 16,
+        2 => (step + 1) << 16 | step,
+        3 => 1 << random.between(32, 63),
+        4 => random.below(INPUTS as u64 + 2),
+        _ => random.edged_word(),
+    }
+}
+
+/// Bytes that are no file at all, though their first ones may look like one.
+pub fn noise(random: &mut Random) -> Vec<u8> {
+    let longest = length(4) as u64;
+    let mut bytes: Vec<u8> = (0..random.below(longest))
+        .map(|_| random.word() as u8)
+        .collect();
+    for (byte, sound) in bytes
+        .iter_mut()
+        .zip([64, 8, 2, 0, 1, 2, 3, 4, 61, 62, 63, 64])
+    {
+        if random.chance(80) {
+            *byte = sound;
+        }
+    }
+    bytes
+}
+
+#[cfg(test)]
+mod tests {
+    use super::*;
+    use crate::file::read;
+
+    #[test]
+    fn sound_files_are_read_back() {
+        let mut random = Random::new(0x5a3);
+        for m in 1..=64 {
+            let sizes = sizes(&mut random, m);
+            for shape in SHAPES {
+                for count in [1, 2, 5, 40, 1024] {
+                    let path = read(&file(&mut random, &sizes, count, shape), 1).unwrap();
+                    assert_eq!((&path.sizes, path.steps.len()), (&sizes, count));
+                    assert!(sizes.full_width(&vector(&mut random, &sizes)));
+                }
+            }
+        }
+    }
+}

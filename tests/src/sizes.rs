@@ -1,0 +1,39 @@
+//! The sizes of a datapath: m, d and the word lengths, with their rules.
+
+/// The most inputs that a datapath may have; a file holds so many word lengths.
+pub const INPUTS: usize = 8;
+
+/// Sound sizes. d is the count of the widths.
+#[derive(Clone, Debug, PartialEq, Eq)]
+pub struct Sizes {
+    pub m: u64,
+    pub widths: Vec<u64>,
+}
+
+impl Sizes {
+    pub fn d(&self) -> usize {
+        self.widths.len()
+    }
+
+    /// The vector has d entries, each below 2^n of its input (the contrary of 14).
+    pub fn full_width(&self, vector: &[u64]) -> bool {
+        let in_range = |(&x, &n): (&u64, &u64)| u128::from(x) < 1 << n;
+        vector.len() == self.d() && vector.iter().zip(&self.widths).all(in_range)
+    }
+}
+
+/// Rule 2.
+pub fn sound_m(m: u64) -> bool {
+    (1..=64).contains(&m)
+}
+
+/// Rule 3.
+pub fn sound_d(d: u64) -> bool {
+    (1..=INPUTS as u64).contains(&d)
+}
+
+/// Rule 5: the first d word lengths are 1 to 64, the others 0.
+pub fn sound_widths(d: u64, widths: &[u64; INPUTS]) -> bool {
+    let (used, unused) = widths.split_at(d as usize);
+    used.iter().all(|n| (1..=64).contains(n)) && unused.iter().all(|&n| n == 0)
+}

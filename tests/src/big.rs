@@ -47,7 +47,7 @@ impl Big {
     pub fn modulo_power(&self, m: usize) -> Big {
         let mut limbs = self.limbs.clone();
         limbs.truncate(m.div_ceil(64));
-        if m % 64 != 0 && limbs.len() == m.div_ceil(64) {
+        if !m.is_multiple_of(64) && limbs.len() == m.div_ceil(64) {
             limbs[m / 64] %= 1 << (m % 64);
         }
         let cut = Big::new(false, limbs);

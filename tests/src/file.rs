@@ -63,7 +63,7 @@ pub fn read(bytes: &[u8], file: u64) -> Result<Datapath, Refusal> {
     if !sound_d(d) {
         return Err(refuse(3, 0));
     }
-    if count < 1 || count > STEPS {
+    if !(1..=STEPS).contains(&count) {
         return Err(refuse(4, 0));
     }
     if !sound_widths(d, &widths) {

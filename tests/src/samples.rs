@@ -137,7 +137,7 @@ pub fn damage(random: &mut Random, bytes: &mut Vec<u8>) {
             let longer = bytes.len() + random.index(20) + 1;
             bytes.resize_with(longer, || random.word() as u8);
         }
-        5 => bytes[0] = random.between(1, u64::from(bytes[0])) as u8,
+        5 => bytes[0] = random.below(u64::from(bytes[0]) + 1) as u8,
         6 | 7 => bytes[HEAD + step] = random.pick(&[0, 1, 2, 3, 4, 5, 6, 255]),
         _ => {
             let argument = bad_argument(random, step as u64);

@@ -1,12 +1,12 @@
 -- Every entry of the table is its bound. One test over the whole table: 2^m divides L! and not (L − 1)!. Since j! divides k! for j up to k,
--- no number below L will do either.
+-- no number below L will do either. A second test: every bound is from 1 to 66.
 use mathlib.Core.Path.{_≡_, refl}
 use mathlib.Core.Bool.{Bool, true, not, _&&_, and-eq-true-iff}
 use Prim.Native.Nat.{ℕ, _+_, _-_, _%_, _^_, _≤_}
 use native.Mathlib.Decide.{decLe}
 use native.Mathlib.Omega.{arith}
-use borrow.Author.Tests.{eqb-true, eqb-false, not-true}
-use lib.Dec.{eqb}
+use borrow.Author.Tests.{leb-true, eqb-true, eqb-false, not-true}
+use lib.Dec.{leb, eqb}
 use lib.ListN.{getD}
 use Rattle.integers.specs.Modulo.{factorial}
 use Rattle.integers.proofs.Divisibility.{factorial-mod}
@@ -22,6 +22,25 @@ right k =
 all-right : every right 0 64 ≡ true
 unfolding every right bounds factorial
 all-right = refl
+
+-- entry k is from 1 to 66
+between : ℕ → Bool
+between k = leb 1 (getD bounds k 0) && leb (getD bounds k 0) 66
+
+all-between : every between 0 64 ≡ true
+unfolding every between bounds
+all-between = refl
+
+bound-between : (m : ℕ) → 1 ≤ m → m ≤ 64 → (leb 1 (bound m) ≡ true) × (leb (bound m) 66 ≡ true)
+unfolding bound between
+bound-between m low high =
+    and-eq-true-iff _ _ .0 (every-at between 0 64 (m - 1) all-between (omega arith) (omega arith))
+
+pub bound-least : (m : ℕ) → 1 ≤ m → m ≤ 64 → 1 ≤ bound m
+bound-least m low high = leb-true _ _ (bound-between m low high .0)
+
+pub bound-most : (m : ℕ) → 1 ≤ m → m ≤ 64 → bound m ≤ 66
+bound-most m low high = leb-true _ _ (bound-between m low high .1)
 
 -- the bound of m is entry m − 1
 pub isBound : (m : ℕ) → 1 ≤ m → m ≤ 64 → IsBound m (bound m)

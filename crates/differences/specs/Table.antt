@@ -3,6 +3,7 @@
 --   mixedDifference ks F   the k-fold forward difference of F at the zero vector: the difference for each input in turn, k_i times
 --   choose n k             the binomial (n choose k)
 --   binomials xs ks        the product of the binomials (x_i choose k_i)
+--   values f j n           the list of f at the n numbers from j on
 --   listed us f            f at every vector of the grid, in the order of their places
 --   tableOf M us F         the difference table of F: cell k holds the k-fold difference at the zero vector, modulo M
 --   given us ys            the function on the grid whose values, in the order of the places, are ys
@@ -30,13 +31,12 @@ binomials [] (k ∷ ks) = 1
 binomials (x ∷ xs) [] = 1
 binomials (x ∷ xs) (k ∷ ks) = choose x k * binomials xs ks
 
--- f at the n places from p on
-unfoldable pub listedFrom : {A : Type 0} → List ℕ → (List ℕ → A) → ℕ → ℕ → List A
-listedFrom us f p zero = []
-listedFrom us f p (suc n) = f (vectorAt us p) ∷ listedFrom us f (p + 1) n
+unfoldable pub values : {A : Type 0} → (ℕ → A) → ℕ → ℕ → List A
+values f j zero = []
+values f j (suc n) = f j ∷ values f (j + 1) n
 
 abbrev pub listed : {A : Type 0} → List ℕ → (List ℕ → A) → List A
-listed us f = listedFrom us f 0 (size us)
+listed us f = values (λ (p : ℕ). f (vectorAt us p)) 0 (size us)
 
 unfoldable pub tableOf : ℕ → List ℕ → (List ℕ → ℤ) → List ℕ
 tableOf M us F = listed us (λ (k : List ℕ). remainder (mixedDifference k F) M)

@@ -1,1 +1,5 @@
-pub mod Stretch
+pub mod Accepted
+pub mod Cases
+pub mod Number
+pub mod Reading
+pub mod Steps

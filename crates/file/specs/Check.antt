@@ -10,8 +10,9 @@
 --   faultyStep s      the first step at which 7 or 8 holds, or N
 --   fileNumber s      the first of 1 to 8 that holds, in document 01's order, or 0
 --   refusalOf w s     what checking s as file w answers: the number, the file and the step
+--   stretchOf s       the operation bytes that are handed out: of a refused file, none
 use mathlib.Core.Bool.{Bool, not, cond, _&&_}
-use mathlib.Core.List.{List}
+use mathlib.Core.List.{List, []}
 use Prim.Native.Nat.{ℕ, _+_, _*_, _^_}
 use lib.Dec.{leb, ltb, eqb}
 use lib.ListN.{length}
@@ -19,7 +20,7 @@ use Rattle.search.specs.Search.{first}
 use Rattle.sizes.specs.declared.Refusal.{Refusal}
 use Rattle.sizes.specs.declared.Sizes.{Sizes}
 use Rattle.sizes.specs.Sizes.{within, badOutput, badInputs, badWidths}
-use Rattle.file.specs.File.{headLength, sizesOf, stepCount, operation, argument, leftOperand, rightOperand, upperHalf}
+use Rattle.file.specs.File.{headLength, sizesOf, stepCount, operation, argument, leftOperand, rightOperand, upperHalf, operationsOf}
 
 abbrev pub maxSteps : ℕ
 maxSteps = 1024
@@ -83,3 +84,6 @@ unfoldable pub refusalOf : ℕ → List ℕ → Refusal
 refusalOf w s =
     cond (eqb (fileNumber s) 0) (record { number = 0; file = 0; step = 0 })
     (record { number = fileNumber s; file = w; step = shownStep s })
+
+unfoldable pub stretchOf : List ℕ → List ℕ
+stretchOf s = cond (eqb (fileNumber s) 0) (operationsOf s) []

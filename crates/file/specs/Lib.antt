@@ -1,3 +1,6 @@
+pub mod Accepted
 pub mod Check
 pub mod File
+pub mod Headed
 pub mod Steps
+pub mod Stretch

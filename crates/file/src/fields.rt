@@ -1,11 +1,11 @@
 // The fields of a datapath file, read from its bytes.
 use sizes::Sizes;
-use words::{le16, le64};
+use words::le16;
+use words::le64;
 ghost use mathlib.Core.Path.{_≡_};
 ghost use Prim.Native.Nat.{_+_, _*_, _^_, _≤_, _<_};
 ghost use lib.ListN.{length};
-ghost use Rattle.file.specs.File.{
-    headLength, sizesOf, stepCount, operation, argument, leftOperand, rightOperand, upperHalf};
+ghost use Rattle.file.specs.File.{headLength, sizesOf, stepCount, operation, argument, leftOperand, rightOperand};
 
 // m, d and the word lengths.
 pub fn read_sizes(file: &[u8]) -> Sizes
@@ -15,7 +15,16 @@ pub fn read_sizes(file: &[u8]) -> Sizes
     Sizes {
         m: file[0],
         d: file[1],
-        widths: [file[4], file[5], file[6], file[7], file[8], file[9], file[10], file[11]],
+        widths: [
+            file[4],
+            file[5],
+            file[6],
+            file[7],
+            file[8],
+            file[9],
+            file[10],
+            file[11],
+        ],
     }
 }
 

@@ -1,9 +1,9 @@
 -- Places and vectors correspond one to one, in order: the digits of a place are its quotient and its remainder by the size of the later axes.
 use mathlib.Core.Path.{_≡_, refl, _∙_, sym, ap, subst}
 use mathlib.Core.Logic.{_⊎_, inl, inr, ⊎-elim}
-use mathlib.Core.List.{List, [], _∷_}
+use mathlib.Core.List.{List, [], _∷_, _++_}
 use Prim.Native.Nat.{ℕ, zero, suc, _+_, _*_, _/_, _%_, _<_, _≤_}
-use native.Mathlib.Nat.{mod-lt, div-add-mod', div-lt-iff-lt-mul, eq-or-lt-of-le, mul-zero, not-suc-le-zero}
+use native.Mathlib.Nat.{mod-lt, div-add-mod', div-lt-iff-lt-mul, eq-or-lt-of-le, mul-zero, mul-assoc, not-suc-le-zero}
 use native.Mathlib.Decide.{decLt}
 use native.Mathlib.Omega.{arith}
 use lib.Arith.{digits-lt, digits-div, digits-mod}
@@ -14,6 +14,11 @@ use Rattle.places.specs.Statement.{OneToOne, InOrder}
 rest-pos : (u s p : ℕ) → p < u * s → 0 < s
 rest-pos u zero p h = absurd (not-suc-le-zero (subst (λ (n : ℕ). p < n) (mul-zero u) h))
 rest-pos u (suc s) p h = omega arith
+
+pub size-snoc : (us : List ℕ) (u : ℕ) → size (us ++ (u ∷ [])) ≡ size us * u
+unfolding size
+size-snoc [] u = omega arith
+size-snoc (w ∷ us) u = rw (size-snoc us u) (sym (mul-assoc w (size us) u))
 
 below : (us : List ℕ) (p : ℕ) → p < size us → Below us (vectorAt us p)
 unfolding size vectorAt

@@ -1,12 +1,13 @@
 -- The laws of bounded search, each by induction on the count.
--- A loop that looks for the first j below n with f j keeps `first f 0 n ≡ first f j (n - j)`: first-step passes a j, first-here stops at
--- one, first-end leaves. A loop that tests all j below n keeps `every f 0 n ≡ every f j (n - j)`: every-step, every-not and every-end.
+-- A loop that looks for the first j below n with f j keeps `first f 0 n ≡ first f j (n - j)`: first-start enters, first-step passes a j,
+-- first-here stops at one, first-end leaves. A loop that tests all j below n keeps `every f 0 n ≡ every f j (n - j)`: every-start,
+-- every-step, every-not and every-end.
 -- Assumes nothing.
 use mathlib.Core.Bool.{Bool, true, false}
 use mathlib.Core.Logic.{_⊎_, inl, inr, ⊎-elim}
 use mathlib.Core.Path.{_≡_, refl, sym, ap, _∙_}
 use Prim.Native.Nat.{ℕ, zero, suc, _+_, _-_, _≤_, _<_}
-use native.Mathlib.Nat.{eq-or-lt-of-le}
+use native.Mathlib.Nat.{eq-or-lt-of-le, sub-zero}
 use native.Mathlib.Omega.{arith}
 use Rattle.search.specs.Search.{first, every}
 
@@ -87,6 +88,9 @@ module _ (f : ℕ → Bool) where
       ∙ first-absent (j + 1) k (λ h low high. none h (omega arith) (omega arith))
       ∙ omega arith
 
+  pub first-start : (n : ℕ) → first f 0 n ≡ first f 0 (n - 0)
+  first-start n = ap (first f 0) (sym (sub-zero n))
+
   pub first-step : (j n : ℕ) → j < n → f j ≡ false → first f j (n - j) ≡ first f (j + 1) (n - (j + 1))
   first-step j n l e =
       let q : n - j ≡ suc (n - (j + 1)) = omega arith in
@@ -126,6 +130,9 @@ module _ (f : ℕ → Bool) where
   every-of j (suc k) at =
       every-later j k (at j (omega arith) (omega arith))
       ∙ every-of (j + 1) k (λ i low high. at i (omega arith) (omega arith))
+
+  pub every-start : (n : ℕ) → every f 0 n ≡ every f 0 (n - 0)
+  every-start n = ap (every f 0) (sym (sub-zero n))
 
   pub every-step : (j n : ℕ) → j < n → f j ≡ true → every f j (n - j) ≡ every f (j + 1) (n - (j + 1))
   every-step j n l e =

@@ -2,12 +2,15 @@
 --   badOutput    2. m is not 1 to 64
 --   badInputs    3. d is not 1 to 8
 --   badWidths    5. a word-length byte breaks its rule: 1 to 64 for the first d, and 0 for the others
+--   refusedBy k  the refusal under the number k that shows no file and no step
+--   accepted     acceptance: number 0
 --   maxInputs    the largest count of inputs, which is also the count of word-length bytes
 use mathlib.Core.Bool.{Bool, not, cond, _&&_}
 use Prim.Native.Nat.{ℕ}
 use lib.Dec.{leb, ltb, eqb}
 use lib.ListN.{getD}
 use Rattle.search.specs.Search.{every}
+use Rattle.sizes.specs.declared.Refusal.{Refusal}
 use Rattle.sizes.specs.declared.Sizes.{Sizes}
 
 abbrev pub maxInputs : ℕ
@@ -28,3 +31,9 @@ widthRule z i = cond (ltb i (z .d)) (within 1 64 (getD (z .widths) i 0)) (eqb (g
 
 unfoldable pub badWidths : Sizes → Bool
 badWidths z = not (every (widthRule z) 0 maxInputs)
+
+abbrev pub refusedBy : ℕ → Refusal
+refusedBy k = record { number = k; file = 0; step = 0 }
+
+abbrev pub accepted : Refusal
+accepted = refusedBy 0

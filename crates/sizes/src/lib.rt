@@ -1,7 +1,15 @@
 // The sizes of a datapath, and the refusal that every call can answer.
 ghost use mathlib.Core.Path.{_≡_};
 ghost use Prim.Native.Nat.{_<_};
-ghost use Rattle.sizes.specs.Sizes.{within, maxInputs, badOutput, badInputs, badWidths, widthRule};
+ghost use Rattle.sizes.specs.Sizes.{
+  within,
+  maxInputs,
+  badOutput,
+  badInputs,
+  badWidths,
+  widthRule,
+  refusedBy,
+};
 
 // m, the output word length; d, the count of inputs; and the word lengths of the inputs.
 pub struct Sizes {
@@ -15,6 +23,17 @@ pub struct Refusal {
     pub number: u64,
     pub file: u64,
     pub step: u64,
+}
+
+// The refusal under a number that shows no file and no step; at 0, acceptance.
+pub fn refused_by(number: u64) -> Refusal
+    ensures { λ r. ⌜ r ≡ refusedBy number ⌝ }
+{
+    Refusal {
+        number,
+        file: 0,
+        step: 0,
+    }
 }
 
 // Whether n is in the range from low to high, ends included.

@@ -17,6 +17,7 @@ use Rattle.bound.proofs.Least.{isBound}
 use Rattle.integers.specs.Modulo.{Divides}
 use Rattle.integers.proofs.Divisibility.{divides-of-mod}
 use Rattle.integers.proofs.Remainder.{congruent→equal, equal→congruent}
+use Rattle.lists.proofs.Lists.{map-append}
 use Rattle.newton.specs.Arithmetic as Newton
 use Rattle.newton.specs.Polynomial.{value}
 use Rattle.newton.proofs.Arithmetic.{value-add, value-sub, value-mul, value-constant, value-shifted}
@@ -26,10 +27,6 @@ use Rattle.steps.specs.Steps.{Step, input, constant, add, subtract, multiply, i
 use Rattle.theorem.specs.Comparison.{Agree}
 
 -- an entry other than the one between two lists does not depend on that one
-map-append : {A B : Type 0} (f : A → B) (xs ys : List A) → map f (xs ++ ys) ≡ map f xs ++ map f ys
-map-append f [] ys = refl
-map-append f (x ∷ xs) ys = ap (λ zs. f x ∷ zs) (map-append f xs ys)
-
 getD-other : (pre post : List ℕ) (t u i : ℕ) → (i ≡ length pre → ⊥) → getD (pre ++ t ∷ post) i 0 ≡ getD (pre ++ u ∷ post) i 0
 getD-other [] post t u zero n = absurd (n refl)
 getD-other [] post t u (suc i) n = refl

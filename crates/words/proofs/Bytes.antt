@@ -5,7 +5,6 @@ use mathlib.Core.Path.{_≡_}
 use Prim.Native.Nat.{ℕ, zero, suc, _+_, _*_, _^_}
 use native.Mathlib.Nat.{zero-add, add-zero, suc-add, one-mul, pow-suc}
 use native.Mathlib.Omega.{arith}
-use lib.ListN.{getD}
 use Rattle.words.specs.Bytes.{little}
 
 pub little-join : (n k : ℕ) (s : List ℕ) (i : ℕ) → little (n + k) s i ≡ little n s i + 256 ^ n * little k s (i + n)

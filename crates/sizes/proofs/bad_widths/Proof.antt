@@ -1,6 +1,6 @@
 -- `sizes::bad_widths` meets its contract. The loop's invariant: the rule holds at all eight places just where it holds from place i on.
 -- Assumes nothing.
-use mathlib.Core.Bool.{true, false, not}
+use mathlib.Core.Bool.{not}
 use mathlib.Core.Path.{_≡_, refl, sym, ap, _∙_}
 use Prim.Native.Nat.{_≤_, _-_}
 use native.Mathlib.Omega.{arith}

@@ -1,6 +1,6 @@
 -- `words::cut` meets its contract. Below 64 the shifted 1 is 2^m itself; from 64 on, x is below 2^m.
 -- Assumes nothing.
-use mathlib.Core.Path.{_≡_, sym, ap, _∙_}
+use mathlib.Core.Path.{_≡_, sym, _∙_}
 use Prim.Native.Nat.{ℕ, _*_, _%_, _^_, _<_}
 use native.Mathlib.Omega.{arith}
 use native.Mathlib.Nat.{mod-eq-of-lt, lt-of-lt-of-le, one-mul}

@@ -66,7 +66,8 @@ impl Bench {
             format!("{call} at {vector:?} with {} scratch words", scratch.len())
         };
         self.same(&answer, &expected.answer, call)?;
-        self.same(&after, &expected.scratch, || format!("scratch, {}", call()))?;
+        let wrong = first_difference(&after, &expected.scratch);
+        self.same(&wrong, &None, || format!("wrong scratch entry, {}", call()))?;
         Ok(expected)
     }
 
@@ -115,6 +116,14 @@ impl Bench {
         self.same(&answer, &calls::grid(file), || named("grid", file))?;
         Ok(answer)
     }
+}
+
+/// Index and values at the first place where two lists of one length differ.
+fn first_difference(found: &[u64], expected: &[u64]) -> Option<(usize, u64, u64)> {
+    assert_eq!(found.len(), expected.len());
+    let both = found.iter().zip(expected).enumerate();
+    both.map(|(index, (&found, &expected))| (index, found, expected))
+        .find(|(_, found, expected)| found != expected)
 }
 
 /// A call on a file, with the file's first bytes.

@@ -28,6 +28,7 @@ mod soak;
 use bench::{Bench, Outcome};
 use std::panic::{self, AssertUnwindSafe};
 use std::process::ExitCode;
+use std::sync::Mutex;
 
 type Group = fn(&mut Bench) -> Outcome;
 
@@ -55,8 +56,13 @@ const GROUPS: [(&str, Option<u64>, Group); 16] = [
     ("random files", Some(soak::SEED), soak::files),
 ];
 
+/// The message and the place of the last panic.
+static PANIC: Mutex<String> = Mutex::new(String::new());
+
 fn main() -> ExitCode {
-    panic::set_hook(Box::new(|_| {}));
+    panic::set_hook(Box::new(|info| {
+        *PANIC.lock().unwrap() = info.to_string().replace('\n', " ");
+    }));
     let mut failed = 0;
     for (name, seed, group) in GROUPS {
         let name = match seed {
@@ -75,16 +81,15 @@ fn main() -> ExitCode {
     ExitCode::from(u8::from(failed > 0))
 }
 
-/// Runs a group on a bench of its own. A panic is a failure with its message.
+/// Runs a group on a bench of its own. A panic is a failure, and so is a group without comparisons.
 fn run(group: Group) -> Outcome<u64> {
     let mut bench = Bench::new();
-    let outcome = panic::catch_unwind(AssertUnwindSafe(|| group(&mut bench)));
-    match outcome {
-        Ok(Ok(())) if bench.comparisons() == 0 => Err(String::from("nothing was compared")),
-        Ok(result) => result.map(|()| bench.comparisons()),
-        Err(payload) => Err(match payload.downcast_ref::<String>() {
-            Some(message) => format!("panic: {message}"),
-            None => format!("panic: {:?}", payload.downcast_ref::<&str>()),
-        }),
+    match panic::catch_unwind(AssertUnwindSafe(|| group(&mut bench))) {
+        Err(_) => Err(PANIC.lock().unwrap().clone()),
+        Ok(Err(what)) => Err(what),
+        Ok(Ok(())) => match bench.comparisons() {
+            0 => Err(String::from("nothing was compared")),
+            comparisons => Ok(comparisons),
+        },
     }
 }

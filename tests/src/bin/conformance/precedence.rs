@@ -45,8 +45,8 @@ fn argument(call: &mut Call, step: usize) {
     call.file[HEAD + STEPS + 8 * step + 7] = 1;
 }
 
-/// In the order in which they are judged. A fault of a file's length comes last of all when it is
-/// made, so that the others find their bytes.
+/// In the order in which they are judged. They are made in the reverse order, so that those inside
+/// the file are made before it is cut.
 const FAULTS: [Fault; 16] = [
     ([1, 1, 0], |call| call.file.truncate(HEAD - 1)),
     ([2, 1, 0], |call| call.file[0] = 65),

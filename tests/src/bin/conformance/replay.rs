@@ -1,10 +1,9 @@
 //! The pairs of document 01 and the examples of document 002, replayed with the product's outputs.
 
 use crate::bench::{Bench, Outcome};
-use reference::compare::{Comparison, Verdict, compare};
+use reference::compare::{Comparison, Verdict, compare, compare_paths};
 use reference::examples;
 use reference::file::read;
-use reference::grid::axes;
 use reference::pairs::{self, Pair};
 use reference::random::Random;
 use reference::samples;
@@ -59,21 +58,25 @@ pub fn outputs(bench: &mut Bench) -> Outcome {
     Ok(())
 }
 
-/// Runs the pair over the product's grid; verdict, vector, outputs and count are the expected ones.
+/// Runs the pair over the product's grid. Verdict, vector, outputs and count are the expected ones
+/// and the reference's.
 fn replay(bench: &mut Bench, pair: &Pair) -> Outcome<Sizes> {
-    let sizes = read(&pair.files[0], 1)
-        .map_err(|refusal| format!("{refusal:?}"))?
-        .sizes;
-    let [left, right] = [bench.grid(&pair.files[0])?, bench.grid(&pair.files[1])?];
-    bench.same(&left, &right, || format!("grids of {}", pair.name))?;
-    let grid = &left[3..3 + sizes.d()];
-    bench.same(grid, &axes(&sizes), || format!("axes of {}", pair.name))?;
-    let found = run(bench, pair, grid)?;
-    bench.same(&found, &pair.expected, || String::from(pair.name))?;
+    let name = pair.name;
+    let sound = |file| read(file, 1).map_err(|refusal| format!("{name}: {refusal:?}"));
+    let [left, right] = [sound(&pair.files[0])?, sound(&pair.files[1])?];
+    let grid = bench.grid(&pair.files[0])?;
+    let other = bench.grid(&pair.files[1])?;
+    bench.same(&grid, &other, || format!("grids of {name}"))?;
+    let axes = &grid[3..3 + left.sizes.d()];
+    let found = run(bench, pair, axes)?;
+    bench.same(&found, &pair.expected, || String::from(name))?;
+    bench.same(&found, &compare_paths(axes, &left, &right), || {
+        format!("{name} by the reference")
+    })?;
     if found.verdict == Verdict::Equivalent {
-        bench.same(&found.run, &left[11], || format!("G of {}", pair.name))?;
+        bench.same(&found.run, &grid[11], || format!("G of {name}"))?;
     }
-    Ok(sizes)
+    Ok(left.sizes)
 }
 
 /// Runs the pair at all full-width vectors: the verdict, its vector and outputs are the grid's.

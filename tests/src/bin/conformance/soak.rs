@@ -45,9 +45,9 @@ pub fn files(bench: &mut Bench) -> Outcome {
 fn steps(random: &mut Random) -> usize {
     match random.below(100) {
         0..3 => 1,
-        3 => STEPS,
-        4 => random.between(500, STEPS as u64) as usize,
-        5..12 => random.between(1, 200) as usize,
+        3..6 => STEPS,
+        6..9 => random.between(200, STEPS as u64) as usize,
+        9..30 => random.between(20, 200) as usize,
         _ => random.between(1, 32) as usize,
     }
 }
@@ -58,10 +58,10 @@ fn file(random: &mut Random, m: u64) -> Vec<u8> {
     }
     let sizes = samples::sizes(random, m);
     let count = steps(random);
-    let shape = match random.below(10) {
-        0..5 => Shape::Spread,
-        5..7 => Shape::Horner,
-        7..9 => Shape::Sums,
+    let shape = match random.below(100) {
+        0..50 => Shape::Spread,
+        50..70 => Shape::Horner,
+        70..80 => Shape::Sums,
         _ => Shape::Powers,
     };
     let mut file = samples::file(random, &sizes, count, shape);
@@ -79,7 +79,8 @@ fn vectors(random: &mut Random, sizes: &Sizes) -> Vec<Vec<u64>> {
     let tops: Vec<u64> = sizes.widths.iter().map(|&n| top(n)).collect();
     let mut list = vec![vec![0; d], tops.clone()];
     list.extend((0..3).map(|_| samples::vector(random, sizes)));
-    let input = random.pick(&[0, d - 1, random.index(d)]);
+    let any = random.index(d);
+    let input = random.pick(&[0, d - 1, any]);
     if sizes.widths[input] < 64 {
         let mut past = tops;
         past[input] += 1;

@@ -1,7 +1,6 @@
 -- `file::fields::argument` meets its contract, by what `le64` ensures of the argument's place. Assumes nothing.
 use mathlib.Core.Path.{ap, _∙_}
 use Prim.Native.Nat.{ℕ, _+_, _*_}
-use native.Mathlib.Omega.{arith}
 use borrow.Author.Needs.{needs}
 use denote.Ref.{now}
 use Rattle.words.specs.Bytes.{little}

@@ -1,6 +1,6 @@
 -- `file::fields::read_sizes` meets its contract: the word lengths are the stretch of eight bytes from byte 4 on. Assumes nothing.
 use borrow.Author.Needs.{needs}
-use Rattle.file.proofs.Stretch.{sizes-read}
+use Rattle.file.proofs.Reading.{sizes-read}
 use Rattle.file.proofs.fields.read_sizes.Statement.{statement}
 use Rattle.file.proofs.fields.read_sizes.Tie as tie
 

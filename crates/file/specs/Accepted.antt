@@ -1,0 +1,29 @@
+-- What holds of an accepted file, as orders and equations of numbers: document 01's rules, with no test in them.
+--   Accepted s   the rules of the head, the length, the word lengths and each step of s
+use mathlib.Core.List.{List}
+use mathlib.Core.Path.{_≡_}
+use Prim.Native.Nat.{ℕ, _+_, _*_, _^_, _≤_, _<_}
+use lib.ListN.{length, getD}
+use Rattle.sizes.specs.Sizes.{maxInputs}
+use Rattle.file.specs.Check.{maxSteps}
+use Rattle.file.specs.File.{headLength, sizesOf, stepCount, operation, argument, leftOperand, rightOperand, upperHalf}
+
+pub record Accepted (s : List ℕ) : Type 0 where
+  pub long : headLength ≤ length s
+  pub size : length s ≡ headLength + 9 * stepCount s
+  pub outputLow : 1 ≤ sizesOf s .m
+  pub outputHigh : sizesOf s .m ≤ 64
+  pub inputsLow : 1 ≤ sizesOf s .d
+  pub inputsHigh : sizesOf s .d ≤ maxInputs
+  pub countLow : 1 ≤ stepCount s
+  pub countHigh : stepCount s ≤ maxSteps
+  pub widthLow : (i : ℕ) → i < sizesOf s .d → 1 ≤ getD (sizesOf s .widths) i 0
+  pub widthHigh : (i : ℕ) → i < sizesOf s .d → getD (sizesOf s .widths) i 0 ≤ 64
+  pub widthUnused : (i : ℕ) → sizesOf s .d ≤ i → i < maxInputs → getD (sizesOf s .widths) i 0 ≡ 0
+  pub operationLow : (k : ℕ) → k < stepCount s → 1 ≤ operation s k
+  pub operationHigh : (k : ℕ) → k < stepCount s → operation s k ≤ 5
+  pub inputArgument : (k : ℕ) → k < stepCount s → operation s k ≡ 1 → argument s k < sizesOf s .d
+  pub constantArgument : (k : ℕ) → k < stepCount s → operation s k ≡ 2 → argument s k < 2 ^ sizesOf s .m
+  pub leftBefore : (k : ℕ) → k < stepCount s → 3 ≤ operation s k → leftOperand (argument s k) < k
+  pub rightBefore : (k : ℕ) → k < stepCount s → 3 ≤ operation s k → rightOperand (argument s k) < k
+  pub upperZero : (k : ℕ) → k < stepCount s → 3 ≤ operation s k → upperHalf (argument s k) ≡ 0

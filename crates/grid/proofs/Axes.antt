@@ -1,0 +1,52 @@
+-- The axes of a grid: none is above 66, so eight of them give fewer than 2^64 vectors.
+use mathlib.Core.Path.{_≡_, sym, _∙_, ap, subst}
+use mathlib.Core.Bool.{false}
+use mathlib.Core.List.{List, [], _∷_}
+use Prim.Native.Nat.{ℕ, suc, _*_, _^_, _≤_, _<_, min}
+use native.Mathlib.Nat.{le-trans, le-refl, mul-le-mul, mul-comm, pow-succ', pow-le-pow-right, min-eq-left, min-eq-right, min-le-right, le-min, one-le-mul, one-le-pow}
+use native.Mathlib.Omega.{arith}
+use lib.Dec.{leb, lit≤, lit<}
+use lib.ListN.{length, length-take}
+use lib.Pow.{pow-mono}
+use borrow.Author.Tests.{lt-leb}
+use Rattle.bound.specs.Axes.{axis, axes}
+use Rattle.bound.specs.Bound.{bound}
+use Rattle.bound.proofs.Least.{bound-least, bound-most}
+use Rattle.places.specs.Places.{size}
+use Rattle.sizes.specs.Sizes.{maxInputs}
+use Rattle.sizes.specs.declared.Sizes.{Sizes}
+use Rattle.grid.specs.Grid.{widthsOf, axesOf, gridSize, tooLarge}
+
+module _ (m : ℕ) (low : 1 ≤ m) (high : m ≤ 64) where
+  pub axis-most : (n : ℕ) → axis m n ≤ 66
+  unfolding axis
+  axis-most n = le-trans (min-le-right (2 ^ n) (bound m)) (bound-most m low high)
+
+  pub axis-wide : (n : ℕ) → 7 ≤ n → axis m n ≡ bound m
+  unfolding axis
+  axis-wide n h = min-eq-right (omega (arith, bound-most m low high, pow-mono h))
+
+  axis-least : (n : ℕ) → 1 ≤ axis m n
+  unfolding axis
+  axis-least n = le-min (one-le-pow n 2 (lit< tt)) (bound-least m low high)
+
+  -- the grid has a vector
+  pub size-least : (ns : List ℕ) → 1 ≤ size (axes m ns)
+  unfolding size
+  size-least [] = lit≤ tt
+  size-least (n ∷ ns) = one-le-mul (axis-least n) (size-least ns)
+
+  pub size-most : (ns : List ℕ) → size (axes m ns) ≤ 66 ^ length ns
+  unfolding size
+  size-most [] = lit≤ tt
+  size-most (n ∷ ns) = rw (pow-succ' 66 (length ns)) (mul-le-mul (axis-most n) (size-most ns))
+
+-- eight axes give fewer than 2^64 vectors
+pub size-fits : (m : ℕ) → 1 ≤ m → m ≤ 64 → (ns : List ℕ) → length ns ≤ 8 → size (axes m ns) < 2 ^ 64
+size-fits m low high ns h =
+    le-trans (omega (arith, le-trans (size-most m low high ns) (pow-le-pow-right (lit< tt) h))) (le-refl (2 ^ 64))
+
+-- so number 10 never occurs
+pub never-large : (z : Sizes) → 1 ≤ z .m → z .m ≤ 64 → z .d ≤ maxInputs → tooLarge z ≡ false
+unfolding tooLarge gridSize axesOf
+never-large z low high h = lt-leb (2 ^ 64) _ (size-fits (z .m) low high (widthsOf z) (rw length-take (omega arith)))

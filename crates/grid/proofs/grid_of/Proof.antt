@@ -1,0 +1,149 @@
+use borrow.Author.Needs.{needs}
+use mathlib.Core.Path.{_≡_, refl, sym, _∙_, ap, ap₂, subst}
+use mathlib.Core.List.{List, _++_, map}
+use Prim.Native.Nat.{ℕ, suc, _+_, _*_, _-_, _^_, _≤_, _<_}
+use native.Mathlib.Omega.{arith}
+use lib.ListN.{length, getD, take, drop, set, replicate, length-map, length-take, length-replicate}
+use lib.Seq.{length-take-le}
+use Rattle.bound.specs.Axes.{axis}
+use Rattle.grid.specs.Grid.{gridOf, gridSize, axesOf}
+use Rattle.grid.proofs.Axes.{size-fits}
+use Rattle.lists.proofs.Lists.{set-front, map-take}
+use Rattle.places.proofs.Places.{size-snoc}
+use Rattle.places.specs.Places as Places
+use Rattle.places.specs.Places.{size}
+use Rattle.grid.proofs.grid_of.Statement.{statement}
+use Rattle.grid.proofs.grid_of.Tie as tie
+use Rattle.grid.proofs.grid_of.Reads as reads
+use Rattle.grid.proofs.grid_of.Lts as lts
+use Rattle.grid.proofs.axis.Reads as axis-reads
+
+-- i axes are in their place, and their product is the size
+record Filled (m d : ℕ) (widths axes : List ℕ) (size i : ℕ) : Type 0 where
+  known : length widths ≡ 8
+  within : i ≤ d
+  filled : axes ≡ map (axis m) (take i widths) ++ replicate (8 - i) 0
+  sized : size ≡ Places.size (map (axis m) (take i widths))
+
+abbrev Inv-loop : tie.InvT-loop
+Inv-loop m d widths axes₀ size₀ i₀ axes size i =
+    Filled m d widths axes size i
+
+abbrev μ-loop : tie.MeasureT-loop
+μ-loop m d widths axes₀ size₀ i₀ axes size i = d - i
+
+module _ (m d : ℕ) (widths axes : List ℕ) (size i : ℕ) (f : Filled m d widths axes size i) where
+  more : (u : ℕ) → d ≤ 8 → i < d → u ≡ axis m (getD widths i 0) → Filled m d widths (set axes i u) (size * u) (i + 1)
+  more u h l e = record { known = f .known; within = l'; filled = placed; sized = product }
+    where
+      l' : i + 1 ≤ d
+      l' = omega arith
+      used : i < length widths
+      used = omega (arith, f .known)
+      front : length (map (axis m) (take i widths)) ≡ i
+      front = rw (length-map, length-take-le i widths (omega (arith, f .known)))
+      left : 8 - i ≡ suc (8 - (i + 1))
+      left = omega arith
+      placed : set axes i u ≡ map (axis m) (take (i + 1) widths) ++ replicate (8 - (i + 1)) 0
+      placed =
+          rw (f .filled, e)
+          (set-front (map (axis m) (take i widths)) (replicate (8 - i) 0) i (axis m (getD widths i 0)) front (rw length-replicate (omega arith))
+          ∙ ap₂ _++_ (sym (map-take (axis m) widths i used)) (ap (λ n. drop 1 (replicate n 0)) left))
+      product : size * u ≡ Places.size (map (axis m) (take (i + 1) widths))
+      product = rw (f .sized, e, map-take (axis m) widths i used) (sym (size-snoc (map (axis m) (take i widths)) (axis m (getD widths i 0))))
+
+-- the invariant after one turn
+next :
+    (c : tie.After-axis Inv-loop μ-loop) →
+    let z = c .before .before .before .before .before .before .args .z in
+    let l = c .before .before .loop in
+    Filled (z .m) (z .d) (z .widths) (set (l .axes) (l .i) (c .axis .result)) (l .size * c .axis .result) (l .i + 1)
+next c =
+    let z = c .before .before .before .before .before .before .args .z in
+    let l = c .before .before .loop in
+    more (z .m) (z .d) (z .widths) (l .axes) (l .size) (l .i) (l .inv) (c .axis .result)
+    (c .before .before .before .before .before .before .pre .1) (c .before .loop-test .taken) (c .axis .ensures .0)
+
+-- src/lib.rt:39:13
+cast-m : tie.Need-cast-m Inv-loop μ-loop
+cast-m c = search needs
+
+-- src/lib.rt:40:13
+cast-d : tie.Need-cast-d Inv-loop μ-loop
+cast-d c = search needs
+
+-- src/lib.rt:45:5
+loop-holds : tie.Need-loop-holds Inv-loop μ-loop
+unfolding size
+loop-holds c =
+    record { known = search needs; within = omega arith; filled = refl; sized = refl }
+
+-- src/lib.rt:46:25
+array-read-axis : tie.Need-array-read-axis Inv-loop μ-loop
+array-read-axis c = search needs
+
+-- src/lib.rt:46:25
+cast-axis : tie.Need-cast-axis Inv-loop μ-loop
+cast-axis c = search needs
+
+-- src/lib.rt:46:13
+axis-requires : tie.Need-axis-requires Inv-loop μ-loop
+axis-requires c κs = search needs
+
+-- src/lib.rt:47:9
+mul-axes : tie.Need-mul-axes Inv-loop μ-loop
+mul-axes c = search needs
+
+-- src/lib.rt:47:9
+array-write-axes : tie.Need-array-write-axes Inv-loop μ-loop
+array-write-axes c = search needs
+
+-- src/lib.rt:48:16
+mul-size : tie.Need-mul-size Inv-loop μ-loop
+mul-size c =
+    let z = c .before .before .before .before .before .before .args .z in
+    let p = c .before .before .before .before .before .before .pre in
+    let i = c .before .before .loop .i in
+    let f = next c in
+    record { fits = subst (λ n. n < 2 ^ 64) (sym (f .sized)) (size-fits (z .m) (p .0 .0) (p .0 .1) (take (i + 1) (z .widths)) (rw length-take (omega (arith, p .1, f .within)))) }
+
+-- src/lib.rt:49:9
+add-i : tie.Need-add-i Inv-loop μ-loop
+add-i c = search needs
+
+-- src/lib.rt:45:5
+loop-less : tie.Need-loop-less Inv-loop μ-loop
+loop-less c = search needs
+
+-- src/lib.rt:45:5
+loop-again : tie.Need-loop-again Inv-loop μ-loop
+loop-again c = next c
+
+-- src/lib.rt:34:1
+returns : tie.Need-returns Inv-loop μ-loop
+unfolding gridOf gridSize axesOf
+returns c =
+    let z = c .before .before .before .before .before .args .z in
+    let f = c .before .loop .inv in
+    let e : c .before .loop .i ≡ z .d = omega arith in
+    λ j. record { axes = (f .filled ∙ ap (λ i. map (axis (z .m)) (take i (z .widths)) ++ replicate (8 - i) 0) e) j; size = (f .sized ∙ ap (λ i. Places.size (map (axis (z .m)) (take i (z .widths)))) e) j }
+
+pub grid-of-spec : {M : Type 1} → statement M
+grid-of-spec =
+    tie.close
+    (tie.spec
+    Inv-loop
+    μ-loop
+    cast-m
+    cast-d
+    loop-holds
+    array-read-axis
+    cast-axis
+    axis-requires
+    mul-axes
+    array-write-axes
+    mul-size
+    add-i
+    loop-less
+    loop-again
+    returns)

@@ -1,0 +1,52 @@
+// The grid of given sizes: its axes and its size.
+use bound::bound;
+use sizes::Sizes;
+ghost use mathlib.Core.Path.{_≡_};
+ghost use Prim.Native.Nat.{_≤_};
+ghost use Rattle.bound.specs.Axes.{axis};
+ghost use Rattle.sizes.specs.Sizes.{maxInputs};
+ghost use Rattle.grid.specs.Grid.{gridOf};
+
+// The axes, 0 past the last input, and the count of vectors.
+pub struct Grid {
+    pub axes: [u64; 8],
+    pub size: u64,
+}
+
+// The smaller of 2^n and L(m). From n = 7 on 2^n is above every bound.
+fn axis(m: u64, n: u64) -> u64
+    requires { ⌜ (1 ≤ m) × (m ≤ 64) ⌝ }
+    ensures { λ r. ⌜ (r ≡ axis m n) × (r ≤ 66) ⌝ }
+{
+    let most = bound(m);
+    if 7 <= n {
+        return most;
+    }
+    let all = 1 << n;
+    if all < most {
+        all
+    } else {
+        most
+    }
+}
+
+// The grid of sizes with m from 1 to 64 and at most 8 inputs: each axis is the smaller of 2^n and L(m), and the size is their product.
+pub fn grid_of(z: Sizes) -> Grid
+    requires { ⌜ (1 ≤ z .m) × (z .m ≤ 64) ⌝ }
+    requires { ⌜ z .d ≤ maxInputs ⌝ }
+    ensures { λ r. ⌜ r ≡ gridOf z ⌝ }
+{
+    let m = z.m as u64;
+    let d = z.d as usize;
+    let widths = z.widths;
+    let mut axes = [0u64; 8];
+    let mut size: u64 = 1;
+    let mut i = 0;
+    while i < d {
+        let u = axis(m, widths[i] as u64);
+        axes[i] = u;
+        size = size * u;
+        i += 1;
+    }
+    Grid { axes, size }
+}

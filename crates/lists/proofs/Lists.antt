@@ -1,0 +1,22 @@
+-- Laws of lists: a map of an append, and the write that extends a list kept in the front of another. Each by recursion or by the laws of
+-- lib.Seq.
+use mathlib.Core.Path.{_≡_, refl, sym, _∙_, ap, ap₂}
+use mathlib.Core.List.{List, [], _∷_, _++_, map}
+use Prim.Native.Nat.{ℕ, suc, _+_, _-_, _<_, _≤_}
+use native.Mathlib.Numerals.{add-one}
+use native.Mathlib.Omega.{arith}
+use lib.ListN.{length, getD, take, drop, set, replicate, length-map}
+use lib.Seq.{append-snoc, drop-cons, set-at, take-suc, length-take-le}
+
+pub map-append {ℓ κ} : {A : Type ℓ} {B : Type κ} (f : A → B) (xs ys : List A) → map f (xs ++ ys) ≡ map f xs ++ map f ys
+map-append f [] ys = refl
+map-append f (x ∷ xs) ys = ap (λ zs. f x ∷ zs) (map-append f xs ys)
+
+-- a list kept in the first k entries of another grows by the write of entry k
+pub set-front : (p rest : List ℕ) (k a : ℕ) → length p ≡ k → 0 < length rest → set (p ++ rest) k a ≡ p ++ (a ∷ []) ++ drop 1 rest
+set-front p [] k a e h = absurd (omega arith)
+set-front p (y ∷ ys) k a e h = set-at p y ys a k e ∙ sym (append-snoc p a ys)
+
+-- the map of one entry more
+pub map-take : (f : ℕ → ℕ) (ws : List ℕ) (i : ℕ) → i < length ws → map f (take (i + 1) ws) ≡ map f (take i ws) ++ (f (getD ws i 0) ∷ [])
+map-take f ws i h = rw (add-one i, take-suc ws i 0) (map-append f (take i ws) (getD ws i 0 ∷ []))

@@ -1,0 +1,3 @@
+pub mod Holds
+pub mod Pairs
+pub mod Written

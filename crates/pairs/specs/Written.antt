@@ -1,0 +1,79 @@
+-- Files written from expressions, in document 01's layout ('The datapath file').
+--   Expression            the steps of a datapath, given the number that its first step has; the last is its value
+--   x i, number c         input i, counted from 0; the constant c
+--   _⊕_, _⊖_, _⊗_         sum, difference and product of two expressions: the left one's steps, the right one's, and one more
+--   polynomial c cs       the polynomial in input 0 with the coefficients c ∷ cs, the highest power first, by Horner's rule
+--   bytes n a             the n bytes of the number a, the first weighing least
+--   operationByte t, argumentOf t
+--                         how a step is held in the two arrays
+--   written m ns e        the file of the expression e with output word length m and inputs of the word lengths ns
+use mathlib.Core.List.{List, [], _∷_, _++_, map}
+use Prim.Native.Nat.{ℕ, zero, suc, _+_, _-_, _*_, _/_, _%_, _^_}
+use lib.ListN.{length, replicate}
+use Rattle.sizes.specs.Sizes.{maxInputs}
+use Rattle.steps.specs.Steps.{Step, input, constant, add, subtract, multiply}
+
+abbrev pub Expression : Type 0
+Expression = ℕ → List Step
+
+unfoldable pub x : ℕ → Expression
+x i k = input i ∷ []
+
+unfoldable pub number : ℕ → Expression
+number c k = constant c ∷ []
+
+-- the operation o on the last steps of a and of b
+unfoldable pub joined : (ℕ → ℕ → Step) → Expression → Expression → Expression
+joined o a b k =
+    let left = a k in
+    let middle = k + length left in
+    let right = b middle in
+    left ++ right ++ (o (middle - 1) (middle + length right - 1) ∷ [])
+
+infixl 65 _⊕_ _⊖_
+infixl 70 _⊗_
+abbrev pub _⊕_ : Expression → Expression → Expression
+a ⊕ b = joined add a b
+
+abbrev pub _⊖_ : Expression → Expression → Expression
+a ⊖ b = joined subtract a b
+
+abbrev pub _⊗_ : Expression → Expression → Expression
+a ⊗ b = joined multiply a b
+
+unfoldable pub horner : Expression → List ℕ → Expression
+horner e [] = e
+horner e (c ∷ cs) = horner (e ⊗ x 0 ⊕ number c) cs
+
+abbrev pub polynomial : ℕ → List ℕ → Expression
+polynomial c cs = horner (number c) cs
+
+unfoldable pub bytes : ℕ → ℕ → List ℕ
+bytes zero a = []
+bytes (suc n) a = a % 256 ∷ bytes n (a / 256)
+
+unfoldable pub operationByte : Step → ℕ
+operationByte (input i) = 1
+operationByte (constant c) = 2
+operationByte (add l r) = 3
+operationByte (subtract l r) = 4
+operationByte (multiply l r) = 5
+
+unfoldable pub argumentOf : Step → ℕ
+argumentOf (input i) = i
+argumentOf (constant c) = c
+argumentOf (add l r) = l + 2 ^ 16 * r
+argumentOf (subtract l r) = l + 2 ^ 16 * r
+argumentOf (multiply l r) = l + 2 ^ 16 * r
+
+unfoldable pub argumentBytes : List Step → List ℕ
+argumentBytes [] = []
+argumentBytes (t ∷ ts) = bytes 8 (argumentOf t) ++ argumentBytes ts
+
+unfoldable pub written : ℕ → List ℕ → Expression → List ℕ
+written m ns e =
+    let ts = e 0 in
+    (m ∷ length ns ∷ bytes 2 (length ts))
+    ++ (ns ++ replicate (maxInputs - length ns) 0)
+    ++ map operationByte ts
+    ++ argumentBytes ts

@@ -1,0 +1,104 @@
+-- Demand 3, as one claim about a whole list of continue calls (document 01, 'Sessions'). It is proved in proofs/Demand3.
+--   OwnFiles f₁ f₂ c     the call c has these two files in this order
+--   Allowed f₁ f₂ z cs   each call of the list, from the session z on, has these files in this order, or is refused where it stands
+--   stop f₁ f₂           D: one more than the place of the first grid vector at which the outputs differ, or G where there is none
+--   Whole f₁ f₂ cs       what holds after the list cs, which starts from the session that opening gave:
+--     refused      a call with these files in this order is refused exactly when its budget is 0, its scratch slice is too short, or the
+--                  accepted budgets before it add up to D or more
+--     run          the vectors run add up to the smaller of S and D
+--     position     and the position is that number
+--     unfinished   S is below D: the mark is open, and no call has given a verdict
+--     finished     otherwise: exactly one call has given a verdict, every later one was refused, and the mark is the verdict's
+--   Settled              of the verdict: it is equivalent exactly where the outputs are equal at every full-width vector; if it is differs,
+--                        the vector shown is the first of all full-width vectors at which they differ, it is the grid's vector at place
+--                        D − 1, and the outputs shown are the two files' outputs there
+use mathlib.Core.Path.{_≡_}
+use mathlib.Core.Bool.{cond}
+use mathlib.Core.Logic.{_⊎_, _↔_}
+use mathlib.Core.List.{List, [], _∷_, _++_}
+use Prim.Native.Nat.{ℕ, _+_, _-_, _<_, _≤_, min}
+use lib.Dec.{ltb}
+use Rattle.bound.specs.Axes.{ranges}
+use Rattle.evaluate.specs.Evaluate.{outputOf}
+use Rattle.file.specs.File.{sizesOf}
+use Rattle.file.specs.Steps.{stepsOf}
+use Rattle.grid.specs.Grid.{widthsOf, axesOf, gridSize}
+use Rattle.places.specs.Places.{Below, vectorAt}
+use Rattle.theorem.specs.Comparison.{firstDifference, IsFirst}
+use Rattle.sessions.specs.Calls.{Call, answerTo, sessionAfter, answers, IsRefused, IsVerdict, budgets, vectorsRun, Each}
+use Rattle.sessions.specs.Session.{isRefusal, opened, largerCount, shown}
+use Rattle.sessions.specs.declared.Answer.{Answer}
+use Rattle.sessions.specs.declared.Mark.{Mark}
+use Rattle.sessions.specs.declared.Mark.the-variants.{Open, Equal, Differ}
+use Rattle.sessions.specs.declared.Outcome.the-variants.{Equivalent, Differs}
+use Rattle.sessions.specs.declared.Session.{Session}
+
+pub record OwnFiles (f₁ f₂ : List ℕ) (c : Call) : Type 0 where
+  pub first : c .file₁ ≡ f₁
+  pub second : c .file₂ ≡ f₂
+
+abbrev pub Allowed : List ℕ → List ℕ → Session → List Call → Type 0
+Allowed f₁ f₂ z [] = Unit {0}
+Allowed f₁ f₂ z (c ∷ cs) = (OwnFiles f₁ f₂ c ⊎ IsRefused (answerTo z c .answer)) × Allowed f₁ f₂ (answerTo z c .session) cs
+
+-- the place of the first grid vector at which the outputs differ, or G
+unfoldable pub firstPlace : List ℕ → List ℕ → ℕ
+firstPlace f₁ f₂ = firstDifference (sizesOf f₁ .m) (axesOf (sizesOf f₁)) (stepsOf f₁) (stepsOf f₂)
+
+unfoldable pub stop : List ℕ → List ℕ → ℕ
+stop f₁ f₂ = cond (ltb (firstPlace f₁ f₂) (gridSize (sizesOf f₁))) (firstPlace f₁ f₂ + 1) (gridSize (sizesOf f₁))
+
+-- x is a full-width vector of the files
+abbrev pub FullWidth : List ℕ → List ℕ → Type 0
+FullWidth f₁ x = Below (ranges (widthsOf (sizesOf f₁))) x
+
+pub record Settled (f₁ f₂ : List ℕ) (a : Answer) : Type 0 where
+  pub equivalent : (a .outcome ≡ Equivalent) ↔ ((x : List ℕ) → FullWidth f₁ x → outputOf f₁ x ≡ outputOf f₂ x)
+  pub vector : List ℕ
+  pub placed : vector ≡ vectorAt (axesOf (sizesOf f₁)) (stop f₁ f₂ - 1)
+  pub first : a .outcome ≡ Differs → IsFirst (sizesOf f₁ .m) (widthsOf (sizesOf f₁)) (stepsOf f₁) (stepsOf f₂) vector
+  pub vector-shown : a .outcome ≡ Differs → a .vector ≡ shown vector
+  pub outputs-shown : a .outcome ≡ Differs → (a .output1 ≡ outputOf f₁ vector) × (a .output2 ≡ outputOf f₂ vector)
+
+-- the mark is the verdict's: equal after equivalent, differ after differs
+pub record MarkOf (a : Answer) (mark : Mark) : Type 0 where
+  pub equal : a .outcome ≡ Equivalent → mark ≡ Equal
+  pub differ : a .outcome ≡ Differs → mark ≡ Differ
+
+-- of the calls cs, from the session z on, exactly one gives a verdict
+pub record Finished (f₁ f₂ : List ℕ) (z : Session) (cs : List Call) : Type 0 where
+  pub before : List Call
+  pub call : Call
+  pub after : List Call
+  pub split : cs ≡ before ++ call ∷ after
+  pub none-before : Each (λ a. ¬ IsVerdict a) (answers z before)
+  pub verdict : IsVerdict (answerTo (sessionAfter z before) call .answer)
+  pub settled : Settled f₁ f₂ (answerTo (sessionAfter z before) call .answer)
+  pub refused-after : Each (λ a. IsRefused a × (¬ IsVerdict a)) (answers (answerTo (sessionAfter z before) call .session) after)
+  pub marked : MarkOf (answerTo (sessionAfter z before) call .answer) (sessionAfter z cs .mark)
+
+-- the session that opening gave
+abbrev pub start : List ℕ → List ℕ → Session
+start f₁ f₂ = opened f₁ f₂ .session
+
+pub record Whole (f₁ f₂ : List ℕ) (cs : List Call) : Type 0 where
+  pub refused :
+    (before : List Call) (c : Call) (after : List Call) →
+    cs ≡ before ++ c ∷ after →
+    OwnFiles f₁ f₂ c →
+    IsRefused (answerTo (sessionAfter (start f₁ f₂) before) c .answer) ↔
+    ((c .budget ≡ 0) ⊎ ((c .scratch < largerCount f₁ f₂) ⊎ (stop f₁ f₂ ≤ budgets (start f₁ f₂) before)))
+  pub run : vectorsRun (answers (start f₁ f₂) cs) ≡ min (budgets (start f₁ f₂) cs) (stop f₁ f₂)
+  pub position : sessionAfter (start f₁ f₂) cs .position ≡ min (budgets (start f₁ f₂) cs) (stop f₁ f₂)
+  pub unfinished :
+    budgets (start f₁ f₂) cs < stop f₁ f₂ →
+    (sessionAfter (start f₁ f₂) cs .mark ≡ Open) × Each (λ a. ¬ IsVerdict a) (answers (start f₁ f₂) cs)
+  pub finished : stop f₁ f₂ ≤ budgets (start f₁ f₂) cs → Finished f₁ f₂ (start f₁ f₂) cs
+
+abbrev pub Demand3 : Type 0
+Demand3 =
+    (f₁ f₂ : List ℕ) →
+    opened f₁ f₂ .refusal .number ≡ 0 →
+    (cs : List Call) →
+    Allowed f₁ f₂ (start f₁ f₂) cs →
+    Whole f₁ f₂ cs

@@ -43,7 +43,7 @@ unfolding combined combine
 combined-suc s k f x =
     combined-linear s s k (λ (y : ℕ). f (suc y)) f x ∙ ap (λ (a : ℤ). a +ℤ s *ℤ combined s k f x) (combined-shift s k f x)
 
-pub mixed-linear :
+mixed-linear :
     (s r : ℤ) (ks : List ℕ) (F G : List ℕ → ℤ)
     → mixed s ks (λ (x : List ℕ). F x +ℤ r *ℤ G x) ≡ mixed s ks F +ℤ r *ℤ mixed s ks G
 unfolding mixed

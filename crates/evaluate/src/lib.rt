@@ -1,18 +1,18 @@
 // Evaluating a datapath file at a vector.
-use file::check::check;
+use file::check;
 use file::fields::{argument, left_operand, operation, read_sizes, right_operand, step_count};
-use sizes::{Refusal, Sizes};
+use sizes::{Refusal, Sizes, refused_by};
 use words::{cut, wrapping_mul};
 ghost use mathlib.Core.Path.{_≡_};
 ghost use mathlib.Core.List.{_++_, map};
-ghost use Prim.Native.Nat.{ℕ, _≤_, _<_};
-ghost use lib.ListN.{length, drop, take, replicate};
-ghost use Rattle.file.specs.File.{sizesOf, stepCount};
+ghost use Prim.Native.Nat.{_≤_, _<_};
+ghost use lib.IntN.{ℤ};
+ghost use lib.ListN.{length, drop, replicate};
 ghost use Rattle.file.specs.Steps.{stepAt, stepsOf};
-ghost use Rattle.file.proofs.Accepted.{Accepted};
 ghost use Rattle.steps.specs.Steps.{stepValue, values};
 ghost use Rattle.words.specs.Words.{word};
-ghost use Rattle.evaluate.specs.Evaluate.{outputOf, inRange, badVector, evaluatedAt, scratchAfter};
+ghost use Rattle.evaluate.specs.Evaluate.{outputOf, inRange, badVector, refusalAt, evaluatedAt, scratchAfter};
+ghost use Rattle.evaluate.specs.Run.{combined, Ready, Running};
 
 // What evaluating answers: the refusal, and the output, which is 0 in a refusal.
 pub struct Evaluated {
@@ -62,13 +62,23 @@ pub fn clear(scratch: &mut [u64], n: usize)
     }
 }
 
+// The sum, difference or product modulo 2^64 of the values of two steps, by the operation byte 3, 4 or 5: the word of the exact result.
+fn combine(op: u8, left: u64, right: u64) -> u64
+    ensures { λ r. ⌜ ((a b : ℤ) → left ≡ word a → right ≡ word b → r ≡ word (combined op a b)) ⌝ }
+{
+    if op == 3 {
+        return std::num::wrapping_add_u64(left, right);
+    }
+    if op == 4 {
+        return std::num::wrapping_sub_u64(left, right);
+    }
+    wrapping_mul(left, right)
+}
+
 // The value modulo 2^64 of step k of an accepted file, where the first k scratch entries hold those of the steps before it.
 fn step_word(file: &[u8], n: usize, vector: &[u64], scratch: &[u64], k: usize) -> u64
-    requires { ⌜ Accepted (now file) ⌝ }
-    requires { ⌜ (n ≡ stepCount (now file)) × (k < n) ⌝ }
-    requires { ⌜ sizesOf (now file) .d ≤ length (now vector) ⌝ }
-    requires { ⌜ k ≤ length (now scratch) ⌝ }
-    requires { ⌜ take k (now scratch) ≡ map word (values (stepsOf (now file)) (now vector) k) ⌝ }
+    requires { ⌜ Running (now file) n (now vector) (now scratch) k ⌝ }
+    requires { ⌜ k < n ⌝ }
     ensures { λ r. ⌜ r ≡ word (stepValue (now (vector .entry)) (values (stepsOf (now (file .entry))) (now (vector .entry)) k) (stepAt (now (file .entry)) k)) ⌝ }
 {
     let op = operation(file, k);
@@ -81,21 +91,12 @@ fn step_word(file: &[u8], n: usize, vector: &[u64], scratch: &[u64], k: usize) -
     }
     let left = scratch[left_operand(a)];
     let right = scratch[right_operand(a)];
-    if op == 3 {
-        return std::num::wrapping_add_u64(left, right);
-    }
-    if op == 4 {
-        return std::num::wrapping_sub_u64(left, right);
-    }
-    wrapping_mul(left, right)
+    combine(op, left, right)
 }
 
 // The values modulo 2^64 of all steps of an accepted file go into the first n scratch entries.
 fn run(file: &[u8], n: usize, vector: &[u64], scratch: &mut [u64])
-    requires { ⌜ Accepted (now file) ⌝ }
-    requires { ⌜ n ≡ stepCount (now file) ⌝ }
-    requires { ⌜ sizesOf (now file) .d ≤ length (now vector) ⌝ }
-    requires { ⌜ n ≤ length (now scratch) ⌝ }
+    requires { ⌜ Ready (now file) n (now vector) (now scratch) ⌝ }
     ensures { λ _. ⌜ now (scratch .exit) ≡ map word (values (stepsOf (now (file .entry))) (now (vector .entry)) n) ++ drop n (now (scratch .entry)) ⌝ }
 {
     let mut k = 0;
@@ -108,10 +109,7 @@ fn run(file: &[u8], n: usize, vector: &[u64], scratch: &mut [u64])
 
 // The output of an accepted file at a vector of at least d values. The first n scratch entries are overwritten.
 pub fn output_at(file: &[u8], n: usize, vector: &[u64], scratch: &mut [u64]) -> u64
-    requires { ⌜ Accepted (now file) ⌝ }
-    requires { ⌜ n ≡ stepCount (now file) ⌝ }
-    requires { ⌜ sizesOf (now file) .d ≤ length (now vector) ⌝ }
-    requires { ⌜ n ≤ length (now scratch) ⌝ }
+    requires { ⌜ Ready (now file) n (now vector) (now scratch) ⌝ }
     ensures { λ r. ⌜ (r ≡ outputOf (now (file .entry)) (now (vector .entry))) × (drop n (now (scratch .exit)) ≡ drop n (now (scratch .entry))) ⌝ }
 {
     run(file, n, vector, scratch);
@@ -119,44 +117,36 @@ pub fn output_at(file: &[u8], n: usize, vector: &[u64], scratch: &mut [u64]) -> 
     cut(scratch[n - 1], m)
 }
 
+// What evaluating with a scratch slice of `room` entries answers first: the file's refusal, 12, 14, or acceptance.
+fn refusal_at(file: &[u8], vector: &[u64], room: usize) -> Refusal
+    ensures { λ r. ⌜ r ≡ refusalAt (now (file .entry)) (now (vector .entry)) room ⌝ }
+{
+    let refusal = check(file);
+    let number = refusal.number;
+    if number != 0 {
+        return refusal;
+    }
+    if room < step_count(file) {
+        return refused_by(12);
+    }
+    if bad_vector(read_sizes(file), vector) {
+        return refused_by(14);
+    }
+    refused_by(0)
+}
+
 // The output of the file at the vector: the exact value of its last step modulo 2^m. Refused under document 01's conditions 1 to 8, 12
 // and 14, in this order. Afterwards the first N scratch entries are zero and the others untouched; a refused call touches none.
 pub fn evaluate(file: &[u8], vector: &[u64], scratch: &mut [u64]) -> Evaluated
     ensures { λ r. ⌜ (r ≡ evaluatedAt (now (file .entry)) (now (vector .entry)) (length (now (scratch .entry)))) × (now (scratch .exit) ≡ scratchAfter (now (file .entry)) (now (vector .entry)) (now (scratch .entry))) ⌝ }
 {
-    let refusal = check(file);
-    if refusal.number != 0 {
+    let refusal = refusal_at(file, vector, scratch.len());
+    let number = refusal.number;
+    if number != 0 {
         return Evaluated { refusal, output: 0 };
     }
     let n = step_count(file);
-    if scratch.len() < n {
-        return refused(12);
-    }
-    let z = read_sizes(file);
-    if bad_vector(z, vector) {
-        return refused(14);
-    }
     let output = output_at(file, n, vector, scratch);
     clear(scratch, n);
-    Evaluated {
-        refusal: Refusal {
-            number: 0,
-            file: 0,
-            step: 0,
-        },
-        output,
-    }
-}
-
-// A refusal under a number that shows no file and no step.
-fn refused(number: u64) -> Evaluated
-{
-    Evaluated {
-        refusal: Refusal {
-            number,
-            file: 0,
-            step: 0,
-        },
-        output: 0,
-    }
+    Evaluated { refusal, output }
 }

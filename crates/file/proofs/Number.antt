@@ -154,4 +154,3 @@ module _ (s : List ℕ) where
           absurd (omega (arith, found-low l, number-step head l)))
           (λ (t : ltb (faultyStep s) (stepCount s) ≡ false). (head, ltb-false _ _ t))
           (true-or-false (ltb (faultyStep s) (stepCount s)))
--- x

@@ -1,9 +1,10 @@
 -- Every row of the table holds. One test over the whole table computes the numbers of both files, their sizes, the first place that
--- differs, and the vector and the outputs there. That no place before it differs is the law of bounded search, so smaller budgets are spent.
+-- differs, and the vector and the outputs there. That no place before it differs is a law of bounded search, so smaller budgets are spent.
+-- Assumes nothing.
 use mathlib.Core.Path.{_≡_, refl}
 use mathlib.Core.Bool.{Bool, true, false, _&&_, and-eq-true-iff}
 use mathlib.Core.List.{List, [], _∷_}
-use Prim.Native.Nat.{ℕ, _+_, _-_, _≤_, _<_}
+use Prim.Native.Nat.{ℕ, _+_, _-_, _^_, _≤_, _<_}
 use native.Mathlib.Decide.{decLt}
 use native.Mathlib.Omega.{arith}
 use borrow.Author.Tests.{ltb-true, le-ltb, lt-ltb, eqb-true, not-false}
@@ -17,7 +18,7 @@ use Rattle.file.specs.Steps.{decoded, stepAt, stepsFrom, stepsOf}
 use Rattle.integers.specs.Modulo.{remainder}
 use Rattle.places.specs.Places.{size, vectorAt}
 use Rattle.search.specs.Search.{first, every}
-use Rattle.search.proofs.Search.{first-before, first-high, every-at}
+use Rattle.search.proofs.Search.{first-before, every-at}
 use Rattle.sizes.specs.Sizes.{badOutput, badInputs, widthRule, badWidths}
 use Rattle.sizes.specs.declared.Sizes.{Sizes}
 use Rattle.steps.specs.Steps.{stepValue, values, exact, output}
@@ -27,6 +28,7 @@ use Rattle.pairs.specs.Written.{x, number, joined, horner, bytes, operat
 use Rattle.pairs.specs.Pairs.{Verdict, equivalent, differs, Pair, a·dp, b·dp, pairs, pairAt}
 use Rattle.pairs.specs.Holds.{wordLength, gridAxes, gridSize, steps₁, steps₂, AgreeAt, firstPlace, stop, Spent, Equivalent, Ended, Holds}
 
+-- two lists, and two files' sizes, are equal
 same : List ℕ → List ℕ → Bool
 same [] [] = true
 same [] (y ∷ ys) = false
@@ -36,6 +38,7 @@ same (x ∷ xs) (y ∷ ys) = eqb x y && same xs ys
 sameSizes : Sizes → Sizes → Bool
 sameSizes z w = eqb (z .m) (w .m) && eqb (z .d) (w .d) && same (z .widths) (w .widths)
 
+-- the first place that differs is as the verdict has it, with its vector and outputs
 given : Pair → Verdict → Bool
 given p equivalent = eqb (firstPlace p) (gridSize p)
 given p (differs v o₁ o₂) =
@@ -44,16 +47,23 @@ given p (differs v o₁ o₂) =
     && eqb (output (wordLength p) (steps₁ p) v) o₁
     && eqb (output (wordLength p) (steps₂ p) v) o₂
 
+-- the whole test of a row
 right : Pair → Bool
 right p =
     eqb (fileNumber (p .file₁)) 0
     && eqb (fileNumber (p .file₂)) 0
     && sameSizes (sizesOf (p .file₁)) (sizesOf (p .file₂))
+    && ltb (gridSize p) (2 ^ 64)
     && eqb (p .run) (stop p)
     && given p (p .verdict)
 
 all-right : every (λ (i : ℕ). right (pairAt i)) 0 (length pairs) ≡ true
-unfolding every right given same sameSizes pairAt pairs a·dp b·dp written argumentBytes argumentOf operationByte bytes horner joined number x little differsAt firstDifference output exact values stepValue badOutput badInputs widthRule badWidths first size vectorAt remainder decoded stepAt stepsFrom stepsOf sizesOf stepCount operation argument fileNumber tooShort badCount badLength badOperation operandsRule argumentRule badArgument stepFault faultyAt faultyStep headFault axis bound bounds
+unfolding every right given same sameSizes
+    pairAt pairs a·dp b·dp written argumentBytes argumentOf operationByte bytes horner joined number x
+    fileNumber headFault tooShort badOutput badInputs badCount badWidths widthRule badLength
+    faultyStep faultyAt stepFault badOperation badArgument argumentRule operandsRule
+    sizesOf stepCount operation argument little stepsOf stepsFrom stepAt decoded
+    axis bound bounds size vectorAt firstDifference first differsAt output exact values stepValue remainder
 all-right = refl
 
 same-true : (a b : List ℕ) → same a b ≡ true → a ≡ b
@@ -118,7 +128,7 @@ module _ (p : Pair) where
       let some = ltb-true (firstPlace p) (gridSize p) (g₁ .0) in
       let at = stop-some some in
       record {
-        place = omega arith;
+        from = omega arith;
         reached = omega arith;
         inside = some;
         vector = same-true _ _ (g₁ .1);
@@ -129,18 +139,20 @@ module _ (p : Pair) where
   holds : right p ≡ true → Holds p
   unfolding right
   holds e =
-      let e₄ = and-eq-true-iff _ _ .0 e in
+      let e₅ = and-eq-true-iff _ _ .0 e in
+      let e₄ = and-eq-true-iff _ _ .0 (e₅ .0) in
       let e₃ = and-eq-true-iff _ _ .0 (e₄ .0) in
       let e₂ = and-eq-true-iff _ _ .0 (e₃ .0) in
       let e₁ = and-eq-true-iff _ _ .0 (e₂ .0) in
-      let counted = eqb-true (p .run) (stop p) (e₃ .1) in
+      let counted = eqb-true (p .run) (stop p) (e₄ .1) in
       record {
         accepted₁ = eqb-true _ _ (e₁ .0);
         accepted₂ = eqb-true _ _ (e₁ .1);
         sizes = sameSizes-true _ _ (e₂ .1);
+        fits = ltb-true _ _ (e₃ .1);
         run = counted;
         spent = spent counted;
-        ended = ended (p .verdict) counted (e₄ .1);
+        ended = ended (p .verdict) counted (e₅ .1);
       }
 
 pub row : (i : ℕ) → i < length pairs → Holds (pairAt i)

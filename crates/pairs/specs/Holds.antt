@@ -9,13 +9,13 @@
 --   Equivalent p j b                 *equivalent*: b reaches the end of the grid and none differs
 --   Differs p j b v o₁ o₂            *differs*: the first vector that differs is among the next b; it is v, with the outputs o₁ and o₂
 --   Ended p j b w                    the verdict w is given
---   Holds p                          the row's claim: both files are accepted and have the same sizes, the vectors run are those up to the
---                                    stop, every smaller budget b is spent, and the rest of the count run then gives the verdict (at b = 0,
---                                    one call gives it)
+-- The row's claim:
+--   Holds p                          none of conditions 1 to 10 holds of the two files; the count run is the stop; every smaller budget b
+--                                    is spent, and the rest of the count then gives the verdict (at b = 0, one call gives it)
 use mathlib.Core.Bool.{cond}
 use mathlib.Core.List.{List}
 use mathlib.Core.Path.{_≡_}
-use Prim.Native.Nat.{ℕ, _+_, _-_, _≤_, _<_}
+use Prim.Native.Nat.{ℕ, _+_, _-_, _^_, _≤_, _<_}
 use lib.Dec.{ltb}
 use lib.ListN.{take}
 use Rattle.bound.specs.Axes.{axes}
@@ -60,7 +60,7 @@ pub record Equivalent (p : Pair) (j b : ℕ) : Type 0 where
   pub end : gridSize p ≤ j + b
 
 pub record Differs (p : Pair) (j b : ℕ) (v : List ℕ) (o₁ o₂ : ℕ) : Type 0 where
-  pub place : j ≤ firstPlace p
+  pub from : j ≤ firstPlace p
   pub reached : firstPlace p < j + b
   pub inside : firstPlace p < gridSize p
   pub vector : vectorAt (gridAxes p) (firstPlace p) ≡ v
@@ -75,6 +75,7 @@ pub record Holds (p : Pair) : Type 0 where
   pub accepted₁ : fileNumber (p .file₁) ≡ 0
   pub accepted₂ : fileNumber (p .file₂) ≡ 0
   pub sizes : sizesOf (p .file₁) ≡ sizesOf (p .file₂)
+  pub fits : gridSize p < 2 ^ 64
   pub run : p .run ≡ stop p
   pub spent : (b : ℕ) → b < p .run → Spent p 0 b
   pub ended : (b : ℕ) → b < p .run → Ended p b (p .run - b) (p .verdict)

@@ -1,30 +1,36 @@
--- One continue call on the files of an accepted opening, from the session that accepted budgets of S in all have led to.
-use mathlib.Core.Path.{_≡_, refl, sym, _∙_, ap, subst}
-use mathlib.Core.Bool.{Bool, true, false, not, cond}
+-- One continue call, from the session that accepted budgets of S in all have led to. A refused call keeps that session, runs no vector and
+-- gives no verdict, whatever its files. A call on the files of an accepted opening is refused exactly where its budget is 0, its scratch
+-- slice is too short or S has reached the stop: a session below the stop is open and at place S, a session at the stop is closed. An
+-- accepted one runs from place S on, to the stop or to the end of its budget, since no place before the first difference differs.
+-- Assumes nothing.
+use mathlib.Core.Path.{_≡_, refl, sym, _∙_}
+use mathlib.Core.Bool.{true, false, cond}
 use mathlib.Core.Logic.{_⊎_, inl, inr, ⊎-elim, _↔_}
-use mathlib.Core.List.{List, [], _∷_, _++_}
-use Prim.Native.Nat.{ℕ, zero, suc, _+_, _-_, _<_, _≤_, min, max}
-use native.Mathlib.Nat.{eq-or-lt-of-le}
-use native.Mathlib.Decide.{decLt, decLe, ℕ-discrete}
+use mathlib.Core.List.{List}
+use Prim.Native.Nat.{ℕ, _+_, _-_, _<_, _≤_, min}
+use native.Mathlib.Nat.{add-zero, le-refl}
+use native.Mathlib.Decide.{decLt}
 use native.Mathlib.Omega.{arith}
-use lib.Dec.{leb, ltb, eqb}
+use lib.Dec.{leb, ltb}
 use lib.ListN.{getD}
-use borrow.Author.Tests.{lt-ltb, le-ltb, le-leb, lt-leb, eq-eqb, ne-eqb, ltb-true, ltb-false, eqb-true}
-use Rattle.file.specs.File.{sizesOf, stepCount}
+use borrow.Author.Tests.{lt-ltb, le-ltb, le-leb, lt-leb, eq-eqb, ne-eqb}
+use Rattle.file.specs.File.{sizesOf}
 use Rattle.grid.specs.Grid.{axesOf, gridSize}
 use Rattle.places.specs.Places.{vectorAt}
-use Rattle.search.specs.Search.{first, every}
-use Rattle.search.proofs.Search.{every-of, first-low, first-high, first-found, first-before, first-unique, first-absent, true-or-false}
-use Rattle.sizes.specs.Sizes.{maxInputs, within, accepted}
-use Rattle.sizes.proofs.Ranges.{range-within}
+use Rattle.search.specs.Search.{first}
+use Rattle.search.proofs.Search.{every-of, first-high, first-found, first-before, first-unique, first-absent, true-or-false}
+use Rattle.sizes.specs.Sizes.{maxInputs, accepted}
+use Rattle.sizes.specs.declared.Refusal.{Refusal}
 use Rattle.sizes.specs.declared.Sizes.{Sizes}
-use Rattle.theorem.specs.Comparison.{differsAt, firstDifference}
-use Rattle.sessions.specs.Calls.{Call, answerTo, IsRefused, IsVerdict}
+use Rattle.theorem.specs.Comparison.{firstDifference}
+use Rattle.sessions.specs.Calls.{Call, answerTo, acceptedBudget, IsRefused, IsVerdict}
 use Rattle.sessions.specs.Demand3.{OwnFiles, firstPlace, stop}
-use Rattle.sessions.specs.Session.{sameSizes, pairRefusal, isRefusal, largerCount, misplaced, isClosed, continueRefusal, outputsDiffer, plainAnswer, differsAnswer, progress, continued}
+use Rattle.sessions.specs.Session.{sameSizes, pairRefusal, isRefusal, largerCount, misplaced, isClosed, continueRefusal, outputsDiffer, refusedAnswer, plainAnswer, differsAnswer, progress, continued}
+use Rattle.sessions.specs.declared.Answer.{Answer}
+use Rattle.sessions.specs.declared.Continued.{Continued}
 use Rattle.sessions.specs.declared.Mark.{Mark}
 use Rattle.sessions.specs.declared.Mark.the-variants.{Open, Equal, Differ}
-use Rattle.sessions.specs.declared.Outcome.the-variants.{Spent, Equivalent}
+use Rattle.sessions.specs.declared.Outcome.the-variants.{Refused, Spent, Equivalent}
 use Rattle.sessions.specs.declared.Session.{Session}
 
 -- sizes are the same as themselves
@@ -33,6 +39,44 @@ unfolding sameSizes
 same-refl z =
     simp (eq-eqb (z .m) (z .m) refl, eq-eqb (z .d) (z .d) refl)
     (every-of _ 0 maxInputs (λ i _ _. eq-eqb (getD (z .widths) i 0) (getD (z .widths) i 0) refl))
+
+-- the answer to an accepted call is no refusal
+progress-accepts : (s₁ s₂ : List ℕ) (z : Session) (B G q : ℕ) → progress s₁ s₂ z B G q .answer .refusal ≡ accepted
+unfolding progress differsAnswer plainAnswer
+progress-accepts s₁ s₂ z B G q =
+    ⊎-elim
+    (λ (e : ltb q (z .position + min B (G - z .position)) ≡ true). rw e)
+    (λ (e : ltb q (z .position + min B (G - z .position)) ≡ false).
+    ⊎-elim
+    (λ (h : leb G (z .position + B) ≡ true). rw (e, h))
+    (λ (h : leb G (z .position + B) ≡ false). rw (e, h))
+    (true-or-false (leb G (z .position + B))))
+    (true-or-false (ltb q (z .position + min B (G - z .position))))
+
+-- neither refused nor spent is a verdict
+no-verdict : (a : Answer) → (a .outcome ≡ Refused) ⊎ (a .outcome ≡ Spent) → ¬ IsVerdict a
+no-verdict a (inl o) (inl e) = let q : _≡_ {A = ℕ} 0 1 = cc in omega arith
+no-verdict a (inl o) (inr e) = let q : _≡_ {A = ℕ} 0 1 = cc in omega arith
+no-verdict a (inr o) (inl e) = let q : _≡_ {A = ℕ} 0 1 = cc in omega arith
+no-verdict a (inr o) (inr e) = let q : _≡_ {A = ℕ} 0 1 = cc in omega arith
+
+module _ (z : Session) (c : Call) where
+  abbrev refusal : Refusal
+  refusal = continueRefusal (c .file₁) (c .file₂) z (c .budget) (c .scratch)
+
+  -- a refused call keeps the session
+  kept : isRefusal refusal ≡ true → answerTo z c ≡ record { session = z; answer = refusedAnswer refusal }
+  unfolding answerTo continued
+  kept e = rw e
+
+  -- the answer is a refusal exactly where a condition refuses the call
+  answer-refusal : isRefusal (answerTo z c .answer .refusal) ≡ isRefusal refusal
+  unfolding answerTo continued refusedAnswer
+  answer-refusal =
+      ⊎-elim
+      (λ (e : isRefusal refusal ≡ true). rw e e)
+      (λ (e : isRefusal refusal ≡ false). rw e (rw progress-accepts))
+      (true-or-false (isRefusal refusal))
 
 module _ (f₁ f₂ : List ℕ) where
   abbrev G : ℕ
@@ -48,29 +92,42 @@ module _ (f₁ f₂ : List ℕ) where
   pub markAt : ℕ → Mark
   markAt S = cond (ltb S D) Open (cond (ltb place G) Differ Equal)
 
+  pub mark-open : (S : ℕ) → S < D → markAt S ≡ Open
+  unfolding markAt
+  mark-open S l = rw (lt-ltb S D l)
+
+  pub mark-differ : (S : ℕ) → D ≤ S → place < G → markAt S ≡ Differ
+  unfolding markAt
+  mark-differ S l p = rw (le-ltb S D l, lt-ltb place G p)
+
+  pub mark-equal : (S : ℕ) → D ≤ S → G ≤ place → markAt S ≡ Equal
+  unfolding markAt
+  mark-equal S l p = rw (le-ltb S D l, le-ltb place G p)
+
   -- the session z is the one that accepted budgets of S in all have led to
   pub record At (S : ℕ) (z : Session) : Type 0 where
     pub sizes : z .sizes ≡ sizesOf f₁
     pub position : z .position ≡ min S D
     pub mark : z .mark ≡ markAt S
 
-  mark-open : (S : ℕ) → S < D → markAt S ≡ Open
-  unfolding markAt
-  mark-open S l = rw (lt-ltb S D l)
+  -- the answer a that gives the verdict, after n vectors
+  pub data Verdict (a : Answer) : Type 0 where
+    differs : (n : ℕ) → place < G → a ≡ differsAnswer f₁ f₂ (vectorAt (axesOf (sizesOf f₁)) place) n → Verdict a
+    equivalent : (n : ℕ) → G ≤ place → a ≡ plainAnswer Equivalent n → Verdict a
 
-  mark-differ : (S : ℕ) → D ≤ S → place < G → markAt S ≡ Differ
-  unfolding markAt
-  mark-differ S l p = rw (le-ltb S D l, lt-ltb place G p)
-
-  mark-equal : (S : ℕ) → D ≤ S → G ≤ place → markAt S ≡ Equal
-  unfolding markAt
-  mark-equal S l p = rw (le-ltb S D l, le-ltb place G p)
+  -- what comes of a call that is answered r, of whose budget n is accepted
+  pub record Stepped (S n : ℕ) (r : Continued) : Type 0 where
+    pub next : At (S + n) (r .session)
+    pub run : r .answer .run + min S D ≡ min (S + n) D
+    pub silent : S + n < D → ¬ IsVerdict (r .answer)
+    pub verdict : S < D → D ≤ S + n → Verdict (r .answer)
+    pub closed : D ≤ S → IsRefused (r .answer) × (¬ IsVerdict (r .answer))
 
   place-first : place ≡ first (outputsDiffer f₁ f₂) 0 G
   unfolding firstPlace firstDifference outputsDiffer gridSize
   place-first = refl
 
-  place-high : place ≤ G
+  pub place-high : place ≤ G
   place-high = omega (arith, place-first, first-high (outputsDiffer f₁ f₂) 0 G)
 
   none-before : (i : ℕ) → i < place → outputsDiffer f₁ f₂ i ≡ false
@@ -80,7 +137,7 @@ module _ (f₁ f₂ : List ℕ) where
   place-differs l = rw place-first (first-found (outputsDiffer f₁ f₂) 0 G (omega (arith, place-first)))
 
   -- the stop, where some place differs and where none does
-  stop-differs : place < G → D ≡ place + 1
+  pub stop-differs : place < G → D ≡ place + 1
   unfolding stop
   stop-differs l = rw (lt-ltb place G l)
 
@@ -88,14 +145,30 @@ module _ (f₁ f₂ : List ℕ) where
   unfolding stop
   stop-agrees l = rw (le-ltb place G l)
 
-  stop-high : D ≤ G
-  stop-high = elim (decLt place G) [ yes l ↦ omega (arith, stop-differs l) | no g ↦ omega (arith, stop-agrees (omega arith)) ]
+  pub stop-range : (D ≤ G) × (1 ≤ G → 1 ≤ D)
+  stop-range =
+      elim (decLt place G)
+      [ yes l ↦ let d = stop-differs l in omega arith | no g ↦ let d = stop-agrees (omega arith) in omega arith ]
 
-  module _ (pair : isRefusal (pairRefusal f₁ f₂) ≡ false) (S : ℕ) (z : Session) (at : At S z) (B len : ℕ) where
-    accepted-call : 0 < B → largerCount f₁ f₂ ≤ len → S < D → continueRefusal f₁ f₂ z B len ≡ accepted
-    unfolding continueRefusal misplaced isClosed
-    accepted-call b n l =
-        rw (ne-eqb B 0 (omega arith), pair, le-ltb len (largerCount f₁ f₂) n, at .sizes, same-refl, at .mark, mark-open S l, lt-ltb (z .position) G (omega (arith, at .position, stop-high)))
+  module _ (S : ℕ) (z : Session) (at : At S z) where
+    -- a refused call, whatever its files
+    refused-call : (c : Call) → IsRefused (answerTo z c .answer) → Stepped S (acceptedBudget z c) (answerTo z c)
+    unfolding acceptedBudget refusedAnswer
+    refused-call c r =
+        let e = sym (answer-refusal z c) ∙ r in
+        let silent = no-verdict (refusedAnswer (refusal z c)) (inl refl) in
+        rw (r, kept z c e)
+        (record {
+          next = rw add-zero at;
+          run = omega arith;
+          silent = λ _. silent;
+          verdict = λ l h. absurd (omega arith);
+          closed = λ _. (e, silent);
+        })
+
+    -- an accepted call runs from place S on
+    here : S < D → z .position ≡ S
+    here l = omega (arith, at .position)
 
     closed-mark : D ≤ S → isClosed (z .mark) ≡ true
     unfolding isClosed
@@ -103,106 +176,192 @@ module _ (f₁ f₂ : List ℕ) where
         elim (decLt place G)
         [ yes p ↦ rw (at .mark, mark-differ S l p) | no g ↦ rw (at .mark, mark-equal S l (omega arith)) ]
 
-    closed-call : 0 < B → largerCount f₁ f₂ ≤ len → D ≤ S → isRefusal (continueRefusal f₁ f₂ z B len) ≡ true
-    unfolding continueRefusal
-    closed-call b n l =
-        rw (ne-eqb B 0 (omega arith), pair, le-ltb len (largerCount f₁ f₂) n, at .sizes, same-refl, closed-mark l)
-        (⊎-elim
-        (λ (e : misplaced G (z .position) (z .mark) ≡ true). rw e)
-        (λ (e : misplaced G (z .position) (z .mark) ≡ false). rw e)
-        (true-or-false (misplaced G (z .position) (z .mark))))
+    module _ (pair : isRefusal (pairRefusal f₁ f₂) ≡ false) (c : Call) where
+      abbrev B : ℕ
+      B = c .budget
 
-    empty-call : B ≡ 0 → isRefusal (continueRefusal f₁ f₂ z B len) ≡ true
-    unfolding continueRefusal
-    empty-call b = rw (eq-eqb B 0 b)
+      abbrev len : ℕ
+      len = c .scratch
 
-    short-call : 0 < B → len < largerCount f₁ f₂ → isRefusal (continueRefusal f₁ f₂ z B len) ≡ true
-    unfolding continueRefusal
-    short-call b l = rw (ne-eqb B 0 (omega arith), pair, lt-ltb len (largerCount f₁ f₂) l)
+      accepted-call : 0 < B → largerCount f₁ f₂ ≤ len → S < D → continueRefusal f₁ f₂ z B len ≡ accepted
+      unfolding continueRefusal misplaced isClosed
+      accepted-call b n l =
+          let inside : z .position < G = omega (arith, at .position, stop-range .0) in
+          rw
+          (ne-eqb B 0 (omega arith), pair, le-ltb len (largerCount f₁ f₂) n, at .sizes, same-refl, at .mark, mark-open S l,
+          lt-ltb (z .position) G inside)
 
-    -- what refuses a call
-    abbrev Bar : Type 0
-    Bar = (B ≡ 0) ⊎ ((len < largerCount f₁ f₂) ⊎ (D ≤ S))
+      closed-call : 0 < B → largerCount f₁ f₂ ≤ len → D ≤ S → isRefusal (continueRefusal f₁ f₂ z B len) ≡ true
+      unfolding continueRefusal
+      closed-call b n l =
+          rw (ne-eqb B 0 (omega arith), pair, le-ltb len (largerCount f₁ f₂) n, at .sizes, same-refl, closed-mark l)
+          (⊎-elim
+          (λ (e : misplaced G (z .position) (z .mark) ≡ true). rw e)
+          (λ (e : misplaced G (z .position) (z .mark) ≡ false). rw e)
+          (true-or-false (misplaced G (z .position) (z .mark))))
 
-    barred-or-free : Bar ⊎ ((0 < B) × (largerCount f₁ f₂ ≤ len) × (S < D))
-    barred-or-free =
-        elim (decLt 0 B)
-        [ yes b ↦ elim (decLt len (largerCount f₁ f₂))
-            [ yes l ↦ inl (inr (inl l))
-            | no n ↦ elim (decLt S D) [ yes u ↦ inr (b, omega arith, u) | no v ↦ inl (inr (inr (omega arith))) ] ]
-        | no e ↦ inl (inl (omega arith)) ]
+      empty-call : B ≡ 0 → isRefusal (continueRefusal f₁ f₂ z B len) ≡ true
+      unfolding continueRefusal
+      empty-call b = rw (eq-eqb B 0 b)
 
-    barred : Bar → isRefusal (continueRefusal f₁ f₂ z B len) ≡ true
-    barred (inl b) = empty-call b
-    barred (inr (inl l)) = elim (decLt 0 B) [ yes b ↦ short-call b l | no e ↦ empty-call (omega arith) ]
-    barred (inr (inr l)) =
-        elim (decLt 0 B)
-        [ yes b ↦ elim (decLt len (largerCount f₁ f₂)) [ yes k ↦ short-call b k | no n ↦ closed-call b (omega arith) l ]
-        | no e ↦ empty-call (omega arith) ]
+      short-call : 0 < B → len < largerCount f₁ f₂ → isRefusal (continueRefusal f₁ f₂ z B len) ≡ true
+      unfolding continueRefusal
+      short-call b l = rw (ne-eqb B 0 (omega arith), pair, lt-ltb len (largerCount f₁ f₂) l)
 
-    pub refused-exactly : (isRefusal (continueRefusal f₁ f₂ z B len) ≡ true) ↔ Bar
-    refused-exactly =
-        (λ r. ⊎-elim (λ (b : Bar). b) (λ f. absurd (let e = accepted-call (f .0) (f .1) (f .2) in let q : _≡_ {A = ℕ} 0 1 = cc in omega arith)) barred-or-free, barred)
+      -- what refuses a call
+      abbrev Bar : Type 0
+      Bar = (c .budget ≡ 0) ⊎ ((c .scratch < largerCount f₁ f₂) ⊎ (D ≤ S))
 
-    -- An accepted call runs from place S on
-    here : S < D → z .position ≡ S
-    here l = omega (arith, at .position)
+      barred-or-free : Bar ⊎ ((0 < B) × (largerCount f₁ f₂ ≤ len) × (S < D))
+      barred-or-free =
+          elim (decLt 0 B)
+          [ yes b ↦ elim (decLt len (largerCount f₁ f₂))
+              [ yes l ↦ inl (inr (inl l))
+              | no n ↦ elim (decLt S D) [ yes u ↦ inr (b, omega arith, u) | no v ↦ inl (inr (inr (omega arith))) ] ]
+          | no e ↦ inl (inl (omega arith)) ]
 
-    accepted-progress :
-        0 < B → largerCount f₁ f₂ ≤ len → S < D →
-        continued f₁ f₂ z B len ≡ progress f₁ f₂ z B G (first (outputsDiffer f₁ f₂) S (min B (G - S)))
-    unfolding continued
-    accepted-progress b n l = rw (accepted-call b n l, here l)
+      barred : Bar → isRefusal (continueRefusal f₁ f₂ z B len) ≡ true
+      barred (inl b) = empty-call b
+      barred (inr (inl l)) = elim (decLt 0 B) [ yes b ↦ short-call b l | no e ↦ empty-call (omega arith) ]
+      barred (inr (inr l)) =
+          elim (decLt 0 B)
+          [ yes b ↦ elim (decLt len (largerCount f₁ f₂)) [ yes k ↦ short-call b k | no n ↦ closed-call b (omega arith) l ]
+          | no e ↦ empty-call (omega arith) ]
 
-    -- the first difference is among the next B
-    reached : place < G → S < D → D ≤ S + B → first (outputsDiffer f₁ f₂) S (min B (G - S)) ≡ place
-    reached p l h =
-        first-unique (outputsDiffer f₁ f₂) S (min B (G - S)) place (omega (arith, stop-differs p)) (omega (arith, stop-differs p)) (place-differs p)
-        (λ i _ k. none-before i k)
+      refused-exactly : (isRefusal (continueRefusal f₁ f₂ z B len) ≡ true) ↔ Bar
+      refused-exactly =
+          (λ r.
+          ⊎-elim
+          (λ (b : Bar). b)
+          (λ f. absurd (let e = accepted-call (f .0) (f .1) (f .2) in let q : _≡_ {A = ℕ} 0 1 = cc in omega arith))
+          barred-or-free,
+          barred)
 
-    -- none of the next B differs
-    passed : S + B ≤ place ⊎ (G ≤ place) → first (outputsDiffer f₁ f₂) S (min B (G - S)) ≡ S + min B (G - S)
-    passed h =
-        first-absent (outputsDiffer f₁ f₂) S (min B (G - S))
-        (λ i low high. none-before i (⊎-elim (λ (a : S + B ≤ place). omega arith) (λ (a : G ≤ place). omega arith) h))
+      accepted-progress :
+          0 < B → largerCount f₁ f₂ ≤ len → S < D →
+          continued f₁ f₂ z B len ≡ progress f₁ f₂ z B G (first (outputsDiffer f₁ f₂) S (min B (G - S)))
+      unfolding continued
+      accepted-progress b n l = rw (accepted-call b n l, here l)
 
-    module _ (b : 0 < B) (n : largerCount f₁ f₂ ≤ len) (l : S < D) where
-      differs-call :
-          place < G → D ≤ S + B →
-          continued f₁ f₂ z B len ≡
-          record {
-            session = record { sizes = z .sizes; position = place + 1; mark = Differ };
-            answer = differsAnswer f₁ f₂ (vectorAt (axesOf (sizesOf f₁)) place) (place + 1 - S);
-          }
-      unfolding progress
-      differs-call p h =
-          accepted-progress b n l ∙ rw (reached p l h, here l, lt-ltb place (S + min B (G - S)) (omega (arith, stop-differs p)))
+      -- the first difference is among the next B
+      reached : place < G → S < D → D ≤ S + B → first (outputsDiffer f₁ f₂) S (min B (G - S)) ≡ place
+      reached p l h =
+          let d = stop-differs p in
+          first-unique (outputsDiffer f₁ f₂) S (min B (G - S)) place (omega arith) (omega arith) (place-differs p) (λ i _ k. none-before i k)
 
-      equivalent-call :
-          G ≤ place → D ≤ S + B →
-          continued f₁ f₂ z B len ≡
-          record {
-            session = record { sizes = z .sizes; position = G; mark = Equal };
-            answer = plainAnswer Equivalent (G - S);
-          }
-      unfolding progress
-      equivalent-call p h =
-          accepted-progress b n l
-          ∙ rw (passed (inr p), here l, le-ltb (S + min B (G - S)) (S + min B (G - S)) (omega arith), le-leb G (S + B) (omega (arith, stop-agrees p)))
+      -- none of the next B differs
+      passed : S + B ≤ place ⊎ (G ≤ place) → first (outputsDiffer f₁ f₂) S (min B (G - S)) ≡ S + min B (G - S)
+      passed h =
+          first-absent (outputsDiffer f₁ f₂) S (min B (G - S))
+          (λ i low high. none-before i (⊎-elim (λ (a : S + B ≤ place). omega arith) (λ (a : G ≤ place). omega arith) h))
 
-      -- nothing differs below the stop
-      still : S + B < D → (S + B ≤ place) ⊎ (G ≤ place)
-      still h =
-          elim (decLt place G) [ yes p ↦ inl (omega (arith, stop-differs p)) | no g ↦ inr (omega arith) ]
+      module _ (b : 0 < B) (n : largerCount f₁ f₂ ≤ len) (l : S < D) where
+        differs-call :
+            place < G → D ≤ S + B →
+            continued f₁ f₂ z B len ≡
+            record {
+              session = record { sizes = z .sizes; position = place + 1; mark = Differ };
+              answer = differsAnswer f₁ f₂ (vectorAt (axesOf (sizesOf f₁)) place) (place + 1 - S);
+            }
+        unfolding progress
+        differs-call p h =
+            let d = stop-differs p in
+            accepted-progress b n l ∙ rw (reached p l h, here l, lt-ltb place (S + min B (G - S)) (omega arith))
 
-      spent-call :
-          S + B < D →
-          continued f₁ f₂ z B len ≡
-          record {
-            session = record { sizes = z .sizes; position = S + B; mark = Open };
-            answer = plainAnswer Spent B;
-          }
-      unfolding progress
-      spent-call h =
-          accepted-progress b n l
-          ∙ rw (passed (still h), here l, le-ltb (S + min B (G - S)) (S + min B (G - S)) (omega arith), lt-leb G (S + B) (omega (arith, stop-high)))
+        equivalent-call :
+            G ≤ place → D ≤ S + B →
+            continued f₁ f₂ z B len ≡
+            record {
+              session = record { sizes = z .sizes; position = G; mark = Equal };
+              answer = plainAnswer Equivalent (G - S);
+            }
+        unfolding progress
+        equivalent-call p h =
+            let d = stop-agrees p in
+            accepted-progress b n l
+            ∙ rw (passed (inr p), here l, le-ltb (S + min B (G - S)) _ (le-refl _), le-leb G (S + B) (omega arith))
+
+        -- nothing differs below the stop
+        still : S + B < D → (S + B ≤ place) ⊎ (G ≤ place)
+        still h =
+            elim (decLt place G) [ yes p ↦ inl (omega (arith, stop-differs p)) | no g ↦ inr (omega arith) ]
+
+        spent-call :
+            S + B < D →
+            continued f₁ f₂ z B len ≡
+            record {
+              session = record { sizes = z .sizes; position = S + B; mark = Open };
+              answer = plainAnswer Spent B;
+            }
+        unfolding progress
+        spent-call h =
+            let d = stop-range .0 in
+            accepted-progress b n l
+            ∙ rw (passed (still h), here l, le-ltb (S + min B (G - S)) _ (le-refl _), lt-leb G (S + B) (omega arith))
+
+        differs-step : place < G → D ≤ S + B → Stepped S B (continued f₁ f₂ z B len)
+        unfolding differsAnswer
+        differs-step p h =
+            let d = stop-differs p in
+            rw (differs-call p h)
+            (record {
+              next = record { sizes = at .sizes; position = omega arith; mark = sym (mark-differ (S + B) h p) };
+              run = omega arith;
+              silent = λ k. absurd (omega arith);
+              verdict = λ _ _. differs (place + 1 - S) p refl;
+              closed = λ k. absurd (omega arith);
+            })
+
+        equivalent-step : G ≤ place → D ≤ S + B → Stepped S B (continued f₁ f₂ z B len)
+        unfolding plainAnswer
+        equivalent-step p h =
+            let d = stop-agrees p in
+            rw (equivalent-call p h)
+            (record {
+              next = record { sizes = at .sizes; position = omega arith; mark = sym (mark-equal (S + B) h p) };
+              run = omega arith;
+              silent = λ k. absurd (omega arith);
+              verdict = λ _ _. equivalent (G - S) p refl;
+              closed = λ k. absurd (omega arith);
+            })
+
+        spent-step : S + B < D → Stepped S B (continued f₁ f₂ z B len)
+        unfolding plainAnswer
+        spent-step h =
+            rw (spent-call h)
+            (record {
+              next = record { sizes = at .sizes; position = omega arith; mark = sym (mark-open (S + B) h) };
+              run = omega arith;
+              silent = λ _. no-verdict (plainAnswer Spent B) (inr refl);
+              verdict = λ _ k. absurd (omega arith);
+              closed = λ k. absurd (omega arith);
+            })
+
+        accepted-step : Stepped S B (continued f₁ f₂ z B len)
+        accepted-step =
+            elim (decLt (S + B) D)
+            [ yes h ↦ spent-step h
+            | no k ↦ elim (decLt place G) [ yes p ↦ differs-step p (omega arith) | no g ↦ equivalent-step (omega arith) (omega arith) ] ]
+
+      own-answer : OwnFiles f₁ f₂ c → answerTo z c ≡ continued f₁ f₂ z B len
+      unfolding answerTo
+      own-answer own = rw (own .first, own .second)
+
+      own-refusal : OwnFiles f₁ f₂ c → isRefusal (answerTo z c .answer .refusal) ≡ isRefusal (continueRefusal f₁ f₂ z B len)
+      own-refusal own = answer-refusal z c ∙ rw (own .first, own .second)
+
+      pub own-refused : OwnFiles f₁ f₂ c → IsRefused (answerTo z c .answer) ↔ Bar
+      own-refused own = rw (own-refusal own) refused-exactly
+
+      own-call : OwnFiles f₁ f₂ c → Stepped S (acceptedBudget z c) (answerTo z c)
+      unfolding acceptedBudget
+      own-call own =
+          ⊎-elim
+          (λ bar. refused-call c (own-refused own .1 bar))
+          (λ f.
+          rw (own-refusal own, accepted-call (f .0) (f .1) (f .2), own-answer own) (accepted-step (f .0) (f .1) (f .2)))
+          barred-or-free
+
+      -- a call of a list that demand 3 is about
+      pub call-step : OwnFiles f₁ f₂ c ⊎ IsRefused (answerTo z c .answer) → Stepped S (acceptedBudget z c) (answerTo z c)
+      call-step = ⊎-elim own-call (refused-call c)

@@ -9,9 +9,10 @@
 --     position     and the position is that number
 --     unfinished   S is below D: the mark is open, and no call has given a verdict
 --     finished     otherwise: exactly one call has given a verdict, every later one was refused, and the mark is the verdict's
---   Settled              of the verdict: it is equivalent exactly where the outputs are equal at every full-width vector; if it is differs,
---                        the vector shown is the first of all full-width vectors at which they differ, it is the grid's vector at place
---                        D − 1, and the outputs shown are the two files' outputs there
+--   Settled f₁ f₂ a      of the verdict: it is equivalent exactly where the outputs are equal at every full-width vector; if it is differs,
+--                        it shows the first difference
+--   ShowsFirst f₁ f₂ a   the grid's vector at place D − 1 is the first of all full-width vectors at which the outputs differ; the answer
+--                        shows it, and the two files' outputs there
 use mathlib.Core.Path.{_≡_}
 use mathlib.Core.Bool.{cond}
 use mathlib.Core.Logic.{_⊎_, _↔_}
@@ -26,7 +27,7 @@ use Rattle.grid.specs.Grid.{widthsOf, axesOf, gridSize}
 use Rattle.places.specs.Places.{Below, vectorAt}
 use Rattle.theorem.specs.Comparison.{firstDifference, IsFirst}
 use Rattle.sessions.specs.Calls.{Call, answerTo, sessionAfter, answers, IsRefused, IsVerdict, budgets, vectorsRun, Each}
-use Rattle.sessions.specs.Session.{isRefusal, opened, largerCount, shown}
+use Rattle.sessions.specs.Session.{opened, largerCount, shown}
 use Rattle.sessions.specs.declared.Answer.{Answer}
 use Rattle.sessions.specs.declared.Mark.{Mark}
 use Rattle.sessions.specs.declared.Mark.the-variants.{Open, Equal, Differ}
@@ -48,17 +49,23 @@ firstPlace f₁ f₂ = firstDifference (sizesOf f₁ .m) (axesOf (sizesOf f₁))
 unfoldable pub stop : List ℕ → List ℕ → ℕ
 stop f₁ f₂ = cond (ltb (firstPlace f₁ f₂) (gridSize (sizesOf f₁))) (firstPlace f₁ f₂ + 1) (gridSize (sizesOf f₁))
 
--- x is a full-width vector of the files
+-- x is a full-width vector of the files, whose sizes are the same
 abbrev pub FullWidth : List ℕ → List ℕ → Type 0
 FullWidth f₁ x = Below (ranges (widthsOf (sizesOf f₁))) x
 
+-- the grid's vector at place D − 1
+abbrev pub stopVector : List ℕ → List ℕ → List ℕ
+stopVector f₁ f₂ = vectorAt (axesOf (sizesOf f₁)) (stop f₁ f₂ - 1)
+
+pub record ShowsFirst (f₁ f₂ : List ℕ) (a : Answer) : Type 0 where
+  pub first : IsFirst (sizesOf f₁ .m) (widthsOf (sizesOf f₁)) (stepsOf f₁) (stepsOf f₂) (stopVector f₁ f₂)
+  pub vector : a .vector ≡ shown (stopVector f₁ f₂)
+  pub output₁ : a .output1 ≡ outputOf f₁ (stopVector f₁ f₂)
+  pub output₂ : a .output2 ≡ outputOf f₂ (stopVector f₁ f₂)
+
 pub record Settled (f₁ f₂ : List ℕ) (a : Answer) : Type 0 where
   pub equivalent : (a .outcome ≡ Equivalent) ↔ ((x : List ℕ) → FullWidth f₁ x → outputOf f₁ x ≡ outputOf f₂ x)
-  pub vector : List ℕ
-  pub placed : vector ≡ vectorAt (axesOf (sizesOf f₁)) (stop f₁ f₂ - 1)
-  pub first : a .outcome ≡ Differs → IsFirst (sizesOf f₁ .m) (widthsOf (sizesOf f₁)) (stepsOf f₁) (stepsOf f₂) vector
-  pub vector-shown : a .outcome ≡ Differs → a .vector ≡ shown vector
-  pub outputs-shown : a .outcome ≡ Differs → (a .output1 ≡ outputOf f₁ vector) × (a .output2 ≡ outputOf f₂ vector)
+  pub differs : a .outcome ≡ Differs → ShowsFirst f₁ f₂ a
 
 -- the mark is the verdict's: equal after equivalent, differ after differs
 pub record MarkOf (a : Answer) (mark : Mark) : Type 0 where

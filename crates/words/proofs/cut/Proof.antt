@@ -17,10 +17,10 @@ shl-result : tie.Need-shl-result
 shl-result c = search needs
 
 rem-result : tie.Need-rem-result
-rem-result c = rw (one-shifted _ (c .if1 .taken)) (pow-pos _)
+rem-result c = rw (one-shifted (c .before .args .m) (search needs)) (pow-pos _)
 
 returns : tie.Need-returns
-returns c = rw (one-shifted _ (c .if1 .taken))
+returns c = rw (one-shifted (c .before .args .m) (search needs))
 
 returns-2 : tie.Need-returns-2
 returns-2 c = sym (mod-eq-of-lt (lt-of-lt-of-le (c .before .fits .x .fits) (pow-mono (c .if1 .left))))

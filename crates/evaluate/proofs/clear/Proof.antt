@@ -1,0 +1,74 @@
+-- `evaluate::clear` meets its contract. The loop's invariant: the first i entries are zero, the others as at entry.
+-- Assumes nothing.
+use mathlib.Core.Path.{_≡_, refl}
+use mathlib.Core.List.{_++_}
+use Prim.Native.Nat.{_≤_, _<_, _-_}
+use native.Mathlib.Omega.{arith}
+use borrow.Author.Fill.{fill-none, fill-more}
+use borrow.Author.Needs.{needs}
+use denote.Ref.{now}
+use lib.ListN.{length, drop, replicate, length-set}
+use Rattle.evaluate.proofs.clear.Statement.{statement}
+use Rattle.evaluate.proofs.clear.Tie as tie
+use Rattle.evaluate.proofs.clear.Reads as reads
+use Rattle.evaluate.proofs.clear.Lts as lts
+
+abbrev Inv-loop : tie.InvT-loop
+Inv-loop scratch₀ n i₀ scratch i =
+    (i ≤ n) × (length scratch ≡ length scratch₀) × (scratch ≡ replicate i 0 ++ drop i scratch₀)
+
+abbrev μ-loop : tie.MeasureT-loop
+μ-loop scratch₀ n i₀ scratch i = n - i
+
+-- src/lib.rt:59:5
+loop-holds : tie.Need-loop-holds Inv-loop μ-loop
+loop-holds c = (omega arith, refl, fill-none _ 0)
+
+-- src/lib.rt:60:9
+mul-scratch : tie.Need-mul-scratch Inv-loop μ-loop
+mul-scratch c = search needs
+
+-- src/lib.rt:60:9
+slice-write-scratch : tie.Need-slice-write-scratch Inv-loop μ-loop
+slice-write-scratch c = search needs
+
+-- src/lib.rt:61:9
+add-i : tie.Need-add-i Inv-loop μ-loop
+add-i c = search needs
+
+-- src/lib.rt:59:5
+loop-less : tie.Need-loop-less Inv-loop μ-loop
+loop-less c = search needs
+
+-- src/lib.rt:59:5
+loop-again : tie.Need-loop-again Inv-loop μ-loop
+loop-again c =
+    let inv = c .before .loop .inv in
+    let i = c .before .loop .i in
+    let h : i < length (now (c .before .before .args .scratch)) = omega arith in
+    (omega arith, simp length-set (inv .1), rw (inv .2) (fill-more i 0 (now (c .before .before .args .scratch)) h))
+
+-- src/lib.rt:54:1
+same-length : tie.Need-same-length Inv-loop μ-loop
+same-length c = search needs
+
+-- src/lib.rt:54:1
+returns : tie.Need-returns Inv-loop μ-loop
+returns c =
+    let e : c .before .loop .i ≡ c .before .before .args .n = omega arith in
+    rw (← e) (c .before .loop .inv .2)
+
+pub clear-spec : {M : Type 1} → statement M
+clear-spec =
+    tie.close
+    (tie.spec
+    Inv-loop
+    μ-loop
+    loop-holds
+    mul-scratch
+    slice-write-scratch
+    add-i
+    loop-less
+    loop-again
+    same-length
+    returns)

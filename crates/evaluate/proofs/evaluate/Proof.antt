@@ -1,0 +1,108 @@
+-- `evaluate::evaluate` meets its contract: the answer by its two cases, and the scratch slice, whose first N entries are cleared.
+-- Assumes nothing.
+use mathlib.Core.List.{_++_}
+use mathlib.Core.Path.{_≡_, sym, _∙_, ap, ap₂}
+use Prim.Native.Nat.{ℕ}
+use native.Mathlib.Omega.{arith}
+use denote.Ref.{now}
+use lib.ListN.{length, drop, replicate}
+use Rattle.file.specs.Accepted.{Accepted}
+use Rattle.file.proofs.Accepted.{accepted}
+use Rattle.sizes.specs.declared.Refusal.{Refusal}
+use Rattle.evaluate.specs.Evaluate.{refusalAt}
+use Rattle.evaluate.specs.declared.Evaluated.{Evaluated}
+use Rattle.evaluate.proofs.Answers.{Passed, passed, vector-long, answer-refused, answer-accepted}
+use borrow.Author.Needs.{needs}
+use Rattle.evaluate.proofs.evaluate.Statement.{statement}
+use Rattle.evaluate.proofs.evaluate.Tie as tie
+use Rattle.evaluate.proofs.evaluate.Reads as reads
+use Rattle.evaluate.proofs.evaluate.Lts as lts
+use Rattle.evaluate.proofs.clear.Reads as clear-reads
+use Rattle.evaluate.proofs.output_at.Reads as output-at-reads
+use Rattle.evaluate.proofs.refusal_at.Reads as refusal-at-reads
+use Rattle.file.proofs.fields.step_count.Reads as step-count-reads
+
+answer : Refusal → ℕ → Evaluated
+answer r o = record { refusal = r; output = o }
+
+number :
+    (c : tie.After-refusal-at) →
+    let a = c .before .before .before .before .args in
+    c .refusal-at .result .number ≡ refusalAt (now (a .file)) (now (a .vector)) (length (now (a .scratch))) .number
+number c = ap (λ (r : Refusal). r .number) (c .refusal-at .ensures)
+
+free :
+    (c : tie.Else1) →
+    let a = c .before .before .before .before .before .args in
+    Passed (now (a .file)) (now (a .vector)) (length (now (a .scratch)))
+free c = passed _ _ _ (sym (number (c .before)) ∙ c .if1 .left)
+
+rules : (c : tie.Else1) → Accepted (now (c .before .before .before .before .before .args .file))
+rules c = accepted _ (free c .sound)
+
+-- src/lib.rt:143:9
+refusal-at-requires : tie.Need-refusal-at-requires
+refusal-at-requires c κs = search needs
+
+-- src/lib.rt:146:9
+returns : tie.Need-returns
+unfolding answer
+returns c =
+    let a = c .before .before .before .before .before .args in
+    let w = answer-refused (now (a .file)) (now (a .vector)) (now (a .scratch)) (λ e. c .if1 .taken (number (c .before) ∙ e)) in
+    (ap (λ r. answer r 0) (c .before .refusal-at .ensures) ∙ w .0, w .1)
+
+-- src/lib.rt:148:9
+step-count-requires : tie.Need-step-count-requires
+step-count-requires c κs = rules c .long
+
+-- src/lib.rt:149:9
+output-at-requires : tie.Need-output-at-requires
+output-at-requires c κs =
+    let g = c .before .before in
+    record {
+      sound = rules g;
+      count = c .before .step-count .ensures .0;
+      inputs = omega (arith, vector-long _ _ (free g .fits));
+      room = omega (arith, free g .room, c .before .step-count .ensures .0);
+    }
+
+-- src/lib.rt:150:5
+clear-requires : tie.Need-clear-requires
+clear-requires c κs =
+    omega
+    (arith,
+    free (c .before .before .before .before .before .before) .room,
+    c .before .before .before .before .before .step-count .ensures .0,
+    c .before .before .before .output-at .kept .1 .1 .1 .0)
+
+-- src/lib.rt:140:1
+same-length : tie.Need-same-length
+same-length c = search needs
+
+-- src/lib.rt:140:1
+returns-2 : tie.Need-returns-2
+unfolding answer
+returns-2 c =
+    let a = c .before .before .before .before .before .before .before .before .before .before .before .before .before .before .args in
+    let g = c .before .before .before .before .before .before .before .before .before in
+    let n = c .before .before .before .before .before .before .before .before .step-count .ensures .0 in
+    let o = c .before .before .before .before .before .before .output-at .ensures in
+    let w = answer-accepted (now (a .file)) (now (a .vector)) (now (a .scratch)) (sym (number (g .before)) ∙ g .if1 .left) in
+    (ap₂ answer (g .before .refusal-at .ensures) (o .0) ∙ w .0,
+    c .before .before .clear .ensures
+    ∙ ap (λ l. replicate (c .before .before .before .before .before .before .before .before .step-count .result) 0 ++ l) (o .1)
+    ∙ ap (λ k. replicate k 0 ++ drop k (now (a .scratch))) n
+    ∙ w .1)
+
+pub evaluate-spec : {M : Type 1} → statement M
+evaluate-spec =
+    tie.close
+    (tie.spec
+    refusal-at-requires
+    returns
+    step-count-requires
+    output-at-requires
+    clear-requires
+    same-length
+    returns-2)

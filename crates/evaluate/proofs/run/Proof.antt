@@ -1,0 +1,120 @@
+-- `evaluate::run` meets its contract. The loop's invariant: the first k scratch entries hold the values of the first k steps, the others are
+-- as at entry.
+-- Assumes nothing.
+use mathlib.Core.List.{List, [], _∷_, _++_, map}
+use mathlib.Core.Path.{_≡_, refl, sym, _∙_, ap, ap₂}
+use Prim.Native.Nat.{ℕ, _+_, _-_, _≤_, _<_}
+use native.Mathlib.Omega.{arith}
+use borrow.Author.Needs.{needs}
+use denote.Ref.{now}
+use lib.ListN.{length, getD, drop, set, length-map, length-set, length-drop}
+use lib.Seq.{take-at, drop-drop}
+use Rattle.file.specs.Steps.{stepAt, stepsOf}
+use Rattle.file.proofs.Steps.{steps-at}
+use Rattle.lists.proofs.Lists.{map-append, set-front}
+use Rattle.steps.specs.Steps.{constant, stepValue, values}
+use Rattle.steps.proofs.Values.{length-values, values-more}
+use Rattle.words.specs.Words.{word}
+use Rattle.evaluate.specs.Run.{Ready, Running}
+use Rattle.evaluate.proofs.run.Statement.{statement}
+use Rattle.evaluate.proofs.run.Tie as tie
+use Rattle.evaluate.proofs.run.Reads as reads
+use Rattle.evaluate.proofs.run.Lts as lts
+use Rattle.evaluate.proofs.step_word.Reads as step-word-reads
+
+record Held (s : List ℕ) (n : ℕ) (x scratch₀ scratch : List ℕ) (k : ℕ) : Type 0 where
+  within : k ≤ n
+  long : length scratch ≡ length scratch₀
+  held : scratch ≡ map word (values (stepsOf s) x k) ++ drop k scratch₀
+
+module _ (s : List ℕ) (n : ℕ) (x scratch₀ scratch : List ℕ) (k : ℕ) (r : Ready s n x scratch₀) (h : Held s n x scratch₀ scratch k) where
+  front : length (map word (values (stepsOf s) x k)) ≡ k
+  front = rw (length-map, length-values)
+
+  running : Running s n x scratch k
+  running =
+      record {
+        ready = record { sound = r .sound; count = r .count; inputs = r .inputs; room = omega (arith, r .room, h .long) };
+        passed = h .within;
+        held = rw (h .held) (take-at _ _ k front);
+      }
+
+  more :
+      (v : ℕ) → k < n → v ≡ word (stepValue x (values (stepsOf s) x k) (stepAt s k)) →
+      Held s n x scratch₀ (set scratch k v) (k + 1)
+  more v l e =
+      record { within = omega arith; long = rw length-set (h .long); held = ap (λ xs. set xs k v) (h .held) ∙ extended }
+    where
+      some : 0 < length (drop k scratch₀)
+      some = rw length-drop (omega (arith, r .room))
+      next : map word (values (stepsOf s) x (k + 1)) ≡ map word (values (stepsOf s) x k) ++ (v ∷ [])
+      next =
+          ap (map word) (values-more (stepsOf s) x k)
+          ∙ map-append word (values (stepsOf s) x k) (stepValue x (values (stepsOf s) x k) (getD (stepsOf s) k (constant 0)) ∷ [])
+          ∙ ap (λ t. map word (values (stepsOf s) x k) ++ (word (stepValue x (values (stepsOf s) x k) t) ∷ [])) (steps-at s k (omega (arith, r .count)))
+          ∙ ap (λ w. map word (values (stepsOf s) x k) ++ (w ∷ [])) (sym e)
+      extended : set (map word (values (stepsOf s) x k) ++ drop k scratch₀) k v ≡ map word (values (stepsOf s) x (k + 1)) ++ drop (k + 1) scratch₀
+      extended =
+          set-front (map word (values (stepsOf s) x k)) (drop k scratch₀) k v front some
+          ∙ ap₂ _++_ (sym next) (drop-drop 1 k scratch₀)
+
+abbrev Inv-loop : tie.InvT-loop
+Inv-loop file n vector scratch₀ k₀ scratch k = Held file n vector scratch₀ scratch k
+
+abbrev μ-loop : tie.MeasureT-loop
+μ-loop file n vector scratch₀ k₀ scratch k = n - k
+
+-- src/lib.rt:103:5
+loop-holds : tie.Need-loop-holds Inv-loop μ-loop
+unfolding values
+loop-holds c = record { within = omega arith; long = refl; held = refl }
+
+-- src/lib.rt:104:13
+step-word-requires : tie.Need-step-word-requires Inv-loop μ-loop
+step-word-requires c κs = (running _ _ _ _ _ _ (c .before .before .before .before .before .before .pre) (c .before .before .loop .inv), c .before .loop-test .taken)
+
+-- src/lib.rt:105:9
+mul-scratch : tie.Need-mul-scratch Inv-loop μ-loop
+mul-scratch c = search needs
+
+-- src/lib.rt:105:9
+slice-write-scratch : tie.Need-slice-write-scratch Inv-loop μ-loop
+slice-write-scratch c = search needs
+
+-- src/lib.rt:106:9
+add-k : tie.Need-add-k Inv-loop μ-loop
+add-k c = search needs
+
+-- src/lib.rt:103:5
+loop-less : tie.Need-loop-less Inv-loop μ-loop
+loop-less c = search needs
+
+-- src/lib.rt:103:5
+loop-again : tie.Need-loop-again Inv-loop μ-loop
+loop-again c = more _ _ _ _ _ _ (c .before .before .before .before .before .before .before .pre) (c .before .before .before .loop .inv) _ (c .before .before .loop-test .taken) (c .step-word .ensures)
+
+-- src/lib.rt:98:1
+same-length : tie.Need-same-length Inv-loop μ-loop
+same-length c = search needs
+
+-- src/lib.rt:98:1
+returns : tie.Need-returns Inv-loop μ-loop
+returns c =
+    let e : c .before .loop .k ≡ c .before .before .before .before .before .args .n = omega (arith, c .before .loop .inv .within) in
+    rw (← e) (c .before .loop .inv .held)
+
+pub run-spec : {M : Type 1} → statement M
+run-spec =
+    tie.close
+    (tie.spec
+    Inv-loop
+    μ-loop
+    loop-holds
+    step-word-requires
+    mul-scratch
+    slice-write-scratch
+    add-k
+    loop-less
+    loop-again
+    same-length
+    returns)

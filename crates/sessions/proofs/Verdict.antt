@@ -1,0 +1,120 @@
+-- The verdict is right of all full-width vectors, and closes the session under its own mark. By the grid theorem: the files of an accepted
+-- opening have the same sizes, with m from 1 to 64, so that the first difference on the grid is the first of all, and where the grid has
+-- none there is none. Assumes nothing.
+use mathlib.Core.Path.{_≡_, refl, ap, subst}
+use mathlib.Core.Bool.{Bool, true, false, not, cond, and-eq-true-iff}
+use mathlib.Core.Logic.{_↔_, inl, inr}
+use mathlib.Core.List.{List}
+use Prim.Native.Nat.{ℕ, _<_, _≤_}
+use native.Mathlib.Omega.{arith}
+use lib.Dec.{eqb}
+use borrow.Author.Tests.{eqb-true, not-false}
+use Rattle.evaluate.specs.Evaluate.{outputOf}
+use Rattle.file.specs.Accepted.{Accepted}
+use Rattle.file.specs.Check.{fileNumber, refusalOf}
+use Rattle.file.specs.File.{sizesOf}
+use Rattle.file.specs.Steps.{stepsOf}
+use Rattle.file.proofs.Accepted.{accepted}
+use Rattle.file.proofs.Number.{refusal-number}
+use Rattle.grid.specs.Grid.{widthsOf, axesOf, gridSize}
+use Rattle.grid.proofs.Axes.{size-least}
+use Rattle.places.specs.Places.{vectorAt}
+use Rattle.sizes.specs.Sizes.{refusedBy}
+use Rattle.sizes.specs.declared.Refusal.{Refusal}
+use Rattle.theorem.specs.Comparison.{Agree, IsFirst}
+use Rattle.theorem.specs.Statement.{OnGrid}
+use Rattle.theorem.proofs.Grid.{gridTheorem}
+use Rattle.sessions.specs.Calls.{IsVerdict}
+use Rattle.sessions.specs.Demand3.{firstPlace, stop, FullWidth, stopVector, Settled, MarkOf}
+use Rattle.sessions.specs.Session.{sameSizes, pairRefusal, isRefusal, plainAnswer, differsAnswer}
+use Rattle.sessions.specs.declared.Answer.{Answer}
+use Rattle.sessions.proofs.Step.{markAt, mark-differ, mark-equal, Verdict, differs, equivalent, place-high, stop-differs}
+
+-- a condition that would refuse doesn't hold where nothing refuses
+cond-passed :
+    (b : Bool) (r s : Refusal) → (b ≡ true → isRefusal r ≡ true) → isRefusal (cond b r s) ≡ false → (b ≡ false) × (isRefusal s ≡ false)
+cond-passed true r s refuses e = absurd (let t = refuses refl in let q : _≡_ {A = ℕ} 0 1 = cc in omega arith)
+cond-passed false r s refuses e = (refl, e)
+
+-- the refusal of a file refuses where its number isn't 0
+file-refuses : (w : ℕ) (s : List ℕ) → not (eqb (fileNumber s) 0) ≡ true → isRefusal (refusalOf w s) ≡ true
+file-refuses w s e = rw (refusal-number s w) e
+
+pub given : (f₁ f₂ : List ℕ) (a : Answer) → Verdict f₁ f₂ a → IsVerdict a
+unfolding plainAnswer differsAnswer
+given f₁ f₂ a (equivalent n p e) = inl (rw e)
+given f₁ f₂ a (differs n p e) = inr (rw e)
+
+-- the mark from the stop on
+pub marked : (f₁ f₂ : List ℕ) (a : Answer) → Verdict f₁ f₂ a → (S : ℕ) → stop f₁ f₂ ≤ S → MarkOf a (markAt f₁ f₂ S)
+unfolding plainAnswer differsAnswer
+marked f₁ f₂ a (equivalent n p e) S h =
+    record { equal = λ _. mark-equal f₁ f₂ S h p; differ = λ d. absurd (let q : _≡_ {A = ℕ} 0 1 = cc in omega arith) }
+marked f₁ f₂ a (differs n p e) S h =
+    record { equal = λ d. absurd (let q : _≡_ {A = ℕ} 0 1 = cc in omega arith); differ = λ _. mark-differ f₁ f₂ S h p }
+
+module _ (f₁ f₂ : List ℕ) (pair : isRefusal (pairRefusal f₁ f₂) ≡ false) where
+  abbrev m : ℕ
+  m = sizesOf f₁ .m
+
+  abbrev widths : List ℕ
+  widths = widthsOf (sizesOf f₁)
+
+  abbrev place : ℕ
+  place = firstPlace f₁ f₂
+
+  -- what an accepted opening tells of the files
+  told : Accepted f₁ × (m ≡ sizesOf f₂ .m)
+  unfolding pairRefusal sameSizes
+  told =
+      let p₁ = cond-passed (not (eqb (fileNumber f₁) 0)) (refusalOf 1 f₁) _ (file-refuses 1 f₁) pair in
+      let p₂ = cond-passed (not (eqb (fileNumber f₂) 0)) (refusalOf 2 f₂) _ (file-refuses 2 f₂) (p₁ .1) in
+      let p₃ = cond-passed (not (sameSizes (sizesOf f₁) (sizesOf f₂))) (refusedBy 9) _ (λ _. refl) (p₂ .1) in
+      let both = and-eq-true-iff _ _ .0 (and-eq-true-iff _ _ .0 (not-false _ (p₃ .0)) .0) in
+      (accepted f₁ (eqb-true _ _ (not-false _ (p₁ .0))), eqb-true _ _ (both .0))
+
+  -- the grid has a vector
+  pub grid-least : 1 ≤ gridSize (sizesOf f₁)
+  unfolding gridSize axesOf
+  grid-least = size-least m (told .0 .outputLow) (told .0 .outputHigh) widths
+
+  onGrid : OnGrid m widths (stepsOf f₁) (stepsOf f₂)
+  onGrid = gridTheorem m (told .0 .outputLow) (told .0 .outputHigh) widths (stepsOf f₁) (stepsOf f₂)
+
+  -- the files' outputs are equal where the theorem's are
+  same-outputs : (x : List ℕ) → (outputOf f₁ x ≡ outputOf f₂ x) ↔ Agree m (stepsOf f₁) (stepsOf f₂) x
+  unfolding outputOf
+  same-outputs x = rw (← told .1) ((λ e. e), (λ e. e))
+
+  -- no place of the grid differs
+  all-equal : gridSize (sizesOf f₁) ≤ place → (x : List ℕ) → FullWidth f₁ x → outputOf f₁ x ≡ outputOf f₂ x
+  unfolding gridSize axesOf firstPlace
+  all-equal p x b =
+      let none : place ≡ gridSize (sizesOf f₁) = omega (arith, place-high f₁ f₂) in
+      same-outputs x .1 (onGrid .none none x b)
+
+  -- some place does
+  at-stop : place < gridSize (sizesOf f₁) → vectorAt (axesOf (sizesOf f₁)) place ≡ stopVector f₁ f₂
+  at-stop p = ap (vectorAt (axesOf (sizesOf f₁))) (omega (arith, stop-differs f₁ f₂ p))
+
+  first-differs : place < gridSize (sizesOf f₁) → IsFirst m widths (stepsOf f₁) (stepsOf f₂) (stopVector f₁ f₂)
+  unfolding gridSize axesOf firstPlace
+  first-differs p = subst (IsFirst m widths (stepsOf f₁) (stepsOf f₂)) (at-stop p) (onGrid .some p .1)
+
+  pub settled : (a : Answer) → Verdict f₁ f₂ a → Settled f₁ f₂ a
+  unfolding plainAnswer differsAnswer
+  settled a (equivalent n p e) =
+      rw e
+      (record {
+        equivalent = (λ _. all-equal p, λ _. refl);
+        differs = λ d. absurd (let q : _≡_ {A = ℕ} 0 1 = cc in omega arith);
+      })
+  settled a (differs n p e) =
+      let first = first-differs p in
+      rw (e, at-stop p)
+      (record {
+        equivalent =
+            (λ d. absurd (let q : _≡_ {A = ℕ} 0 1 = cc in omega arith),
+             λ all. absurd (first .differs (same-outputs _ .0 (all (stopVector f₁ f₂) (first .fullWidth)))));
+        differs = λ _. record { first = first; vector = refl; output₁ = refl; output₂ = refl };
+      })

@@ -1,0 +1,19 @@
+-- The list of the first k values: its length, one value more, and that it reads no more of a vector than its entries.
+use mathlib.Core.Path.{_≡_, refl, sym, _∙_, ap, ap₂}
+use mathlib.Core.List.{List, [], _∷_, _++_}
+use Prim.Native.Nat.{ℕ, zero, suc, _+_}
+use native.Mathlib.Numerals.{add-one}
+use lib.IntN.{pos}
+use lib.ListN.{length, getD, length-append}
+use Rattle.steps.specs.Steps.{Step, input, constant, add, subtract, multiply, inputValue, stepValue, values}
+
+pub length-values : (ts : List Step) (x : List ℕ) (k : ℕ) → length (values ts x k) ≡ k
+unfolding values
+length-values ts x zero = refl
+length-values ts x (suc k) = rw (length-append, length-values ts x k) (add-one k)
+
+pub values-more :
+    (ts : List Step) (x : List ℕ) (k : ℕ) →
+    values ts x (k + 1) ≡ values ts x k ++ (stepValue x (values ts x k) (getD ts k (constant 0)) ∷ [])
+unfolding values
+values-more ts x k = rw add-one

@@ -1,5 +1,0 @@
-pub mod Blocks
-pub mod Lines
-pub mod Multiples
-pub mod Rounds
-pub mod Splice

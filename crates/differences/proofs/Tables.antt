@@ -1,5 +1,5 @@
--- The statements of specs/Statement.antt on tables and sums. Both are `mixed`: differences with the factor −1, sums with the factor 1. These undo
--- one another, and the remainders taken on the way do not matter modulo M.
+-- The statements of specs/Statement.antt on tables and sums. Both are `mixed`: differences with the factor −1, sums with the factor 1. These
+-- undo one another, and the remainders taken on the way do not matter modulo M.
 use mathlib.Core.Path.{_≡_, refl, sym, _∙_, ap, fun-ext}
 use mathlib.Core.List.{List, [], _∷_}
 use Prim.Native.Nat.{ℕ, _%_, _<_}

@@ -1,8 +1,8 @@
--- Laws of lists: a map of an append, and the write that extends a list kept in the front of another. Each by recursion or by the laws of
+-- Laws of lists: a map of an append, entries one by one, and the write that extends a list kept in the front of another. Each by recursion or by the laws of
 -- lib.Seq.
 use mathlib.Core.Path.{_≡_, refl, sym, _∙_, ap, ap₂}
 use mathlib.Core.List.{List, [], _∷_, _++_, map}
-use Prim.Native.Nat.{ℕ, suc, _+_, _-_, _<_, _≤_}
+use Prim.Native.Nat.{ℕ, zero, suc, _+_, _-_, _<_, _≤_}
 use native.Mathlib.Numerals.{add-one}
 use native.Mathlib.Omega.{arith}
 use lib.ListN.{length, getD, take, drop, set, replicate, length-map}
@@ -11,6 +11,18 @@ use lib.Seq.{append-snoc, drop-cons, set-at, take-suc, length-take-le}
 pub map-append {ℓ κ} : {A : Type ℓ} {B : Type κ} (f : A → B) (xs ys : List A) → map f (xs ++ ys) ≡ map f xs ++ map f ys
 map-append f [] ys = refl
 map-append f (x ∷ xs) ys = ap (λ zs. f x ∷ zs) (map-append f xs ys)
+
+-- the n entries of a list from i on, one by one
+abbrev pub entries : ℕ → List ℕ → ℕ → List ℕ
+entries zero l i = []
+entries (suc n) l i = getD l i 0 ∷ entries n l (i + 1)
+
+pub entries-stretch : (n : ℕ) (l : List ℕ) (i : ℕ) → i + n ≤ length l → entries n l i ≡ take n (drop i l)
+entries-stretch zero l i h = refl
+entries-stretch (suc n) l i h =
+    ap (λ t. getD l i 0 ∷ t) (entries-stretch n l (i + 1) (omega arith))
+    ∙ ap (λ j. getD l i 0 ∷ take n (drop j l)) (add-one i)
+    ∙ ap (take (suc n)) (sym (drop-cons l i 0 (omega arith)))
 
 -- a list kept in the first k entries of another grows by the write of entry k
 pub set-front : (p rest : List ℕ) (k a : ℕ) → length p ≡ k → 0 < length rest → set (p ++ rest) k a ≡ p ++ (a ∷ []) ++ drop 1 rest

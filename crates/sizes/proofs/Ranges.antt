@@ -6,7 +6,7 @@ use Prim.Native.Nat.{ℕ, _≤_, _<_}
 use native.Mathlib.Omega.{arith}
 use lib.Dec.{leb, eqb}
 use lib.ListN.{getD}
-use borrow.Author.Tests.{leb-true, le-leb, lt-ltb, le-ltb, eqb-true, not-false}
+use borrow.Author.Tests.{leb-true, lt-ltb, le-ltb, eqb-true, not-false}
 use Rattle.search.proofs.Search.{every-at}
 use Rattle.sizes.specs.declared.Sizes.{Sizes}
 use Rattle.sizes.specs.Sizes.{within, maxInputs, badOutput, badInputs, badWidths, widthRule}
@@ -15,9 +15,6 @@ pub within-range : (low high n : ℕ) → within low high n ≡ true → (low �
 within-range low high n e =
     let both = and-eq-true-iff (leb low n) (leb n high) .0 e in
     (leb-true low n (both .0), leb-true n high (both .1))
-
-pub range-within : (low high n : ℕ) → low ≤ n → n ≤ high → within low high n ≡ true
-range-within low high n l h = simp (le-leb low n l, le-leb n high h)
 
 module _ (z : Sizes) where
   pub output-range : badOutput z ≡ false → (1 ≤ z .m) × (z .m ≤ 64)

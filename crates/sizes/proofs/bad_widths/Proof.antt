@@ -1,13 +1,13 @@
 -- `sizes::bad_widths` meets its contract. The loop's invariant: the rule holds at all eight places just where it holds from place i on.
 -- Assumes nothing.
 use mathlib.Core.Bool.{not}
-use mathlib.Core.Path.{_≡_, refl, sym, ap, _∙_}
+use mathlib.Core.Path.{_≡_, sym, ap, _∙_}
 use Prim.Native.Nat.{_≤_, _-_}
 use native.Mathlib.Omega.{arith}
 use borrow.Author.Needs.{needs}
 use borrow.Author.Tests.{not-true, not-false}
 use Rattle.search.specs.Search.{every}
-use Rattle.search.proofs.Search.{every-step, every-not, every-end}
+use Rattle.search.proofs.Search.{every-start, every-step, every-not, every-end}
 use Rattle.sizes.specs.Sizes.{maxInputs, badWidths, widthRule}
 use Rattle.sizes.proofs.bad_widths.Statement.{statement}
 use Rattle.sizes.proofs.bad_widths.Tie as tie
@@ -19,7 +19,7 @@ abbrev μ-loop : tie.MeasureT-loop
 μ-loop z i₀ i = maxInputs - i
 
 loop-holds : tie.Need-loop-holds Inv-loop μ-loop
-loop-holds c = (search needs, refl)
+loop-holds c = (search needs, every-start _ _)
 
 width-rule-requires : tie.Need-width-rule-requires Inv-loop μ-loop
 width-rule-requires c κs = search needs

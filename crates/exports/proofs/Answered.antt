@@ -1,0 +1,82 @@
+-- What a call leaves, by the length of the lent answer slice; and the words of each answer by its cases.
+use mathlib.Core.Path.{_≡_, refl, sym, _∙_, ap}
+use mathlib.Core.Bool.{true, false}
+use mathlib.Core.Logic.{_⊎_, ⊎-elim}
+use mathlib.Core.List.{List, [], _∷_, _++_}
+use Prim.Native.Nat.{ℕ, _<_, _≤_}
+use native.Mathlib.Decide.{ℕ-discrete}
+use native.Mathlib.Omega.{arith}
+use lib.Dec.{eqb}
+use lib.ListN.{length, getD, take, drop, length-take, length-drop}
+use lib.Seq.{take-all}
+use borrow.Author.Tests.{eq-eqb, ne-eqb}
+use Rattle.bound.specs.Bound.{bound}
+use Rattle.file.specs.Accepted.{Accepted}
+use Rattle.file.specs.Check.{fileNumber, refusalOf, stretchOf}
+use Rattle.file.specs.File.{headLength, sizesOf, stepCount, operationsOf}
+use Rattle.file.proofs.Accepted.{accepted}
+use Rattle.file.proofs.Number.{stretch-accepted, stretch-refused}
+use Rattle.grid.specs.Grid.{gridOf}
+use Rattle.grid.proofs.Axes.{never-large}
+use Rattle.lists.proofs.Lists.{entries-stretch}
+use Rattle.sizes.specs.Sizes.{within}
+use Rattle.exports.specs.Words.{rightLength, answered, refusalWords, operationWords, boundWords, gridAsWords, gridWords}
+
+module _ (n : ℕ) (out : List ℕ) where
+  pub untouched : ¬ (length out ≡ n) → (w : List ℕ) → (0 ≡ rightLength n out) × (out ≡ answered n out w)
+  untouched e w = (rw (ne-eqb (length out) n e), rw (ne-eqb (length out) n e))
+
+  pub written : length out ≡ n → {v w : List ℕ} → v ≡ w → (1 ≡ rightLength n out) × (v ≡ answered n out w)
+  written e q = (rw (eq-eqb (length out) n e), rw (eq-eqb (length out) n e) q)
+
+module _ (s : List ℕ) where
+  operations-accepted : fileNumber s ≡ 0 → operationWords s ≡ headLength ∷ stepCount s ∷ []
+  unfolding operationWords
+  operations-accepted e = rw (eq-eqb (fileNumber s) 0 e)
+
+  operations-refused : ¬ (fileNumber s ≡ 0) → operationWords s ≡ 0 ∷ 0 ∷ []
+  unfolding operationWords
+  operations-refused n = rw (ne-eqb (fileNumber s) 0 n)
+
+  -- the stretch of an accepted file has N bytes
+  stretch-length : fileNumber s ≡ 0 → length (stretchOf s) ≡ stepCount s
+  unfolding operationsOf
+  stretch-length e =
+      let a = accepted s e in
+      rw (stretch-accepted s e, length-take, length-drop) (omega (arith, a .size))
+
+  -- start and length, as the code tells them by the length
+  pub operations-told :
+      (start n : ℕ) → n ≡ length (stretchOf s) → ((n ≡ 0) × (start ≡ 0)) ⊎ ((¬ (n ≡ 0)) × (start ≡ headLength)) →
+      start ∷ n ∷ [] ≡ operationWords s
+  operations-told start n e t =
+      elim (ℕ-discrete (fileNumber s) 0)
+      [ yes z ↦ let l = stretch-length z in
+          ⊎-elim (λ w. absurd (omega (arith, e, l, accepted s z .countLow, w .0))) (λ w. cc (operations-accepted z)) t
+      | no x ↦ let l = stretch-refused s x in
+          let k : length (stretchOf s) ≡ 0 = rw l in
+          ⊎-elim (λ w. cc (operations-refused x)) (λ w. absurd (w .0 (e ∙ k))) t ]
+
+  pub grid-refused : ¬ (fileNumber s ≡ 0) → gridWords s ≡ refusalWords (refusalOf 1 s) ++ (0 ∷ 0 ∷ 0 ∷ 0 ∷ 0 ∷ 0 ∷ 0 ∷ 0 ∷ 0 ∷ [])
+  unfolding gridWords
+  grid-refused n = rw (ne-eqb (fileNumber s) 0 n)
+
+  pub grid-accepted : fileNumber s ≡ 0 → gridWords s ≡ 0 ∷ 0 ∷ 0 ∷ gridAsWords (gridOf (sizesOf s))
+  unfolding gridWords
+  grid-accepted e =
+      let a = accepted s e in
+      rw (eq-eqb (fileNumber s) 0 e, never-large (sizesOf s) (a .outputLow) (a .outputHigh) (a .inputsHigh))
+
+pub bound-refused : (m : ℕ) → within 1 64 m ≡ false → boundWords m ≡ 2 ∷ 0 ∷ 0 ∷ 0 ∷ []
+unfolding boundWords
+bound-refused m e = rw e
+
+pub bound-accepted : (m : ℕ) → within 1 64 m ≡ true → boundWords m ≡ 0 ∷ 0 ∷ 0 ∷ bound m ∷ []
+unfolding boundWords
+bound-accepted m e = rw e
+
+-- a list of eight entries, entry by entry, before another
+pub eight :
+    (l rest : List ℕ) → length l ≡ 8 →
+    getD l 0 0 ∷ getD l 1 0 ∷ getD l 2 0 ∷ getD l 3 0 ∷ getD l 4 0 ∷ getD l 5 0 ∷ getD l 6 0 ∷ getD l 7 0 ∷ rest ≡ l ++ rest
+eight l rest e = ap (λ k. k ++ rest) (entries-stretch 8 l 0 (omega arith) ∙ take-all 8 l (omega arith))

@@ -1,0 +1,6 @@
+pub mod Blocks
+pub mod Lines
+pub mod Multiples
+pub mod Results
+pub mod Rounds
+pub mod Splice

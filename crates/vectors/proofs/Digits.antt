@@ -1,0 +1,104 @@
+-- A vector's entries as the digits of its place: one entry, taken by the size of the later axes, is what it weighs in the place, so a write of
+-- one entry moves the place by that weight. Each by recursion on the axes.
+use mathlib.Core.Path.{_≡_, refl, sym, _∙_, ap}
+use mathlib.Core.List.{List, [], _∷_, _++_}
+use Prim.Native.Nat.{ℕ, zero, suc, _+_, _*_, _-_, _<_, _≤_}
+use native.Mathlib.Omega.{arith}
+use lib.ListN.{length, getD, take, drop, set, replicate, length-set, length-replicate, replicate-append-replicate, List·getD-append}
+use lib.Seq.{drop-cons, drop-length, set-append-left, take-at}
+use Rattle.places.specs.Places.{Below, size, vectorAt, placeOf}
+use Rattle.places.proofs.Places.{oneToOne}
+use Rattle.sizes.specs.Sizes.{maxInputs}
+use Rattle.vectors.specs.Vectors.{held}
+
+below-length : (us x : List ℕ) → Below us x → length x ≡ length us
+below-length [] [] b = refl
+below-length [] (y ∷ ys) b = absurd b
+below-length (u ∷ us) [] b = absurd b
+below-length (u ∷ us) (y ∷ ys) b = ap suc (below-length us ys (b .1))
+
+below-at : (us x : List ℕ) (i : ℕ) → Below us x → i < length us → getD x i 0 < getD us i 0
+below-at [] x i b h = absurd (omega arith)
+below-at (u ∷ us) [] i b h = absurd b
+below-at (u ∷ us) (y ∷ ys) zero b h = b .0
+below-at (u ∷ us) (y ∷ ys) (suc i) b h = below-at us ys i (b .1) (omega arith)
+
+below-set : (us x : List ℕ) (i a : ℕ) → Below us x → a < getD us i 0 → Below us (set x i a)
+below-set [] x i a b h = absurd (omega arith)
+below-set (u ∷ us) [] i a b h = absurd b
+below-set (u ∷ us) (y ∷ ys) zero a b h = (h, b .1)
+below-set (u ∷ us) (y ∷ ys) (suc i) a b h = (b .0, below-set us ys i a (b .1) h)
+
+-- the write of entry i moves the place by the weight of that entry
+pub place-set :
+    (us x : List ℕ) (i a : ℕ) → Below us x → i < length us →
+    placeOf us (set x i a) + getD x i 0 * size (drop (suc i) us) ≡ placeOf us x + a * size (drop (suc i) us)
+unfolding placeOf
+place-set [] x i a b h = absurd (omega arith)
+place-set (u ∷ us) [] i a b h = absurd b
+place-set (u ∷ us) (y ∷ ys) zero a b h = omega arith
+place-set (u ∷ us) (y ∷ ys) (suc i) a b h = omega (arith, place-set us ys i a (b .1) (omega arith))
+
+pub size-drop : (us : List ℕ) (i : ℕ) → i < length us → size (drop i us) ≡ getD us i 0 * size (drop (suc i) us)
+unfolding size
+size-drop us i h = rw (drop-cons us i 0)
+
+pub size-end : (us : List ℕ) (n : ℕ) → length us ≡ n → size (drop n us) ≡ 1
+unfolding size
+size-end us n l = rw (← l, drop-length us)
+
+-- where there is a vector, there is the one of zeros, at place 0
+below-zeros : (us x : List ℕ) → Below us x → Below us (replicate (length us) 0)
+below-zeros [] x b = tt
+below-zeros (u ∷ us) [] b = absurd b
+below-zeros (u ∷ us) (y ∷ ys) b = (omega (arith, b .0), below-zeros us ys (b .1))
+
+place-zeros : (us : List ℕ) → placeOf us (replicate (length us) 0) ≡ 0
+unfolding placeOf
+place-zeros [] = refl
+place-zeros (u ∷ us) = omega (arith, place-zeros us)
+
+-- v holds the vector x, which is below the axes us
+pub record Digits (us v x : List ℕ) : Type 0 where
+  pub shape : v ≡ held x
+  pub below : Below us x
+
+pub zeros :
+    (us x : List ℕ) (n : ℕ) → length us ≡ n → n ≤ maxInputs → Below us x →
+    Digits us (replicate maxInputs 0) (replicate n 0) × (placeOf us (replicate n 0) ≡ 0)
+zeros us x n l h b =
+    let e : maxInputs ≡ n + (maxInputs - n) = omega arith in
+    (record {
+      shape = rw (length-replicate, replicate-append-replicate) (ap (λ k. replicate k 0) e);
+      below = rw (← l) (below-zeros us x b);
+    },
+    rw (← l) (place-zeros us))
+
+module _ (us v x : List ℕ) (g : Digits us v x) where
+  pub digit : (i : ℕ) → i < length us → getD v i 0 ≡ getD x i 0
+  digit i h = ap (λ l. getD l i 0) (g .shape) ∙ List·getD-append x _ 0 i (omega (arith, below-length us x (g .below)))
+
+  pub digit-below : (i : ℕ) → i < length us → getD x i 0 < getD us i 0
+  digit-below i h = below-at us x i (g .below) h
+
+  pub written : (i a : ℕ) → i < length us → a < getD us i 0 → Digits us (set v i a) (set x i a)
+  written i a h l =
+      record {
+        shape =
+            ap (λ w. set w i a) (g .shape)
+            ∙ set-append-left x _ i a (omega (arith, below-length us x (g .below)))
+            ∙ rw length-set;
+        below = below-set us x i a (g .below) l;
+      }
+
+  pub placed : (p : ℕ) → placeOf us x ≡ p → v ≡ held (vectorAt us p)
+  placed p e = g .shape ∙ ap held (sym (oneToOne us .found x (g .below)) ∙ ap (vectorAt us) e)
+
+-- two places that hold the same are one
+pub same-place : (us : List ℕ) (p q : ℕ) → p < size us → q < size us → held (vectorAt us p) ≡ held (vectorAt us q) → p ≡ q
+same-place us p q hp hq e = sym (oneToOne us .placed p hp) ∙ ap (placeOf us) same ∙ oneToOne us .placed q hq
+  where
+    front : (r : ℕ) → r < size us → take (length us) (held (vectorAt us r)) ≡ vectorAt us r
+    front r h = take-at (vectorAt us r) _ (length us) (below-length us (vectorAt us r) (oneToOne us .below r h))
+    same : vectorAt us p ≡ vectorAt us q
+    same = sym (front p hp) ∙ ap (take (length us)) e ∙ front q hq

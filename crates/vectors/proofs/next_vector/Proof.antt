@@ -1,0 +1,194 @@
+-- `vectors::next_vector` meets its contract. The loop's invariant: the entries from i on have gone from their last values to 0, and the vector
+-- is one block of the axes from i on short of the place after the first.
+-- Assumes nothing.
+use mathlib.Core.Path.{_≡_, sym, _∙_, ap}
+use mathlib.Core.List.{List}
+use Prim.Native.Nat.{ℕ, suc, _+_, _*_, _-_, _≤_, _<_}
+use native.Mathlib.Omega.{arith}
+use lib.ListN.{length, getD, take, drop, set}
+use lib.Seq.{length-take-le, getD-take}
+use Rattle.places.specs.Places.{size, vectorAt, placeOf}
+use Rattle.places.proofs.Places.{oneToOne}
+use Rattle.vectors.specs.Vectors.{held, Placed}
+use Rattle.vectors.proofs.Digits.{Digits, digit, digit-below, place-set, placed, same-place, size-drop, size-end, written}
+use borrow.Author.Needs.{needs}
+use mir.Syntax.{w64}
+use mir.Val.{Fits}
+use Rattle.vectors.proofs.next_vector.Statement.{statement}
+use Rattle.vectors.proofs.next_vector.Tie as tie
+use Rattle.vectors.proofs.next_vector.Reads as reads
+use Rattle.vectors.proofs.next_vector.Lts as lts
+
+record Carried (axes : List ℕ) (d : ℕ) (v₀ v : List ℕ) (i : ℕ) : Type 0 where
+  within : i ≤ d
+  long : length (take d axes) ≡ d
+  first : Placed (take d axes) v₀
+  vector : List ℕ
+  digits : Digits (take d axes) v vector
+  place : placeOf (take d axes) vector + size (drop i (take d axes)) ≡ first .place + 1
+
+start : (axes : List ℕ) (d : ℕ) (v : List ℕ) → length (take d axes) ≡ d → Placed (take d axes) v → Carried axes d v v d
+start axes d v l s =
+    let us = take d axes in
+    record {
+      within = omega arith;
+      long = l;
+      first = s;
+      vector = vectorAt us (s .place);
+      digits = record { shape = s .shape; below = oneToOne us .below (s .place) (s .inside) };
+      place = rw (oneToOne us .placed (s .place) (s .inside), size-end us d l);
+    }
+
+module _ (axes : List ℕ) (d : ℕ) (v₀ v : List ℕ) (i : ℕ) (f : Carried axes d v₀ v i) where
+  abbrev us : List ℕ
+  us = take d axes
+
+  -- the place is the one that the caller means
+  meant : (p : ℕ) → p + 1 < size us → v₀ ≡ held (vectorAt us p) → f .first .place ≡ p
+  meant p h s = same-place us (f .first .place) p (f .first .inside) (omega arith) (sym (f .first .shape) ∙ s)
+
+  module _ (t : 0 < i) where
+    abbrev u : ℕ
+    u = getD axes (i - 1) 0
+
+    abbrev w : ℕ
+    w = getD v (i - 1) 0
+
+    inside : i - 1 < length us
+    inside = omega (arith, f .within, f .long)
+
+    axis : getD us (i - 1) 0 ≡ u
+    axis = getD-take d axes (i - 1) 0 (omega (arith, f .within))
+
+    entry : w ≡ getD (f .vector) (i - 1) 0
+    entry = digit us v (f .vector) (f .digits) (i - 1) inside
+
+    below : w < u
+    below = omega (arith, axis, entry, digit-below us v (f .vector) (f .digits) (i - 1) inside)
+
+    next : suc (i - 1) ≡ i
+    next = omega arith
+
+    weighed : (a : ℕ) → placeOf us (set (f .vector) (i - 1) a) + w * size (drop i us) ≡ placeOf us (f .vector) + a * size (drop i us)
+    weighed a = rw entry (rw next at (place-set us (f .vector) (i - 1) a (f .digits .below) inside))
+
+    carry : u ≤ w + 1 → Carried axes d v₀ (set v (i - 1) 0) (i - 1)
+    carry l =
+        let n : u ≡ w + 1 = omega (arith, below) in
+        record {
+          within = omega (arith, f .within);
+          long = f .long;
+          first = f .first;
+          vector = set (f .vector) (i - 1) 0;
+          digits = written us v (f .vector) (f .digits) (i - 1) 0 inside (omega (arith, axis));
+          place =
+              rw (size-drop us (i - 1) inside, axis, next)
+              (omega (arith, ap (λ k. k * size (drop i us)) n, weighed 0, f .place));
+        }
+
+    up : w + 1 < u → (p : ℕ) → p + 1 < size us → v₀ ≡ held (vectorAt us p) → set v (i - 1) (w + 1) ≡ held (vectorAt us (p + 1))
+    up l p h s =
+        placed us (set v (i - 1) (w + 1)) (set (f .vector) (i - 1) (w + 1))
+        (written us v (f .vector) (f .digits) (i - 1) (w + 1) inside (omega (arith, axis)))
+        (p + 1)
+        (omega (arith, weighed (w + 1), f .place, meant p h s))
+
+-- past the first input there is no next vector
+wrapped : (axes : List ℕ) (d : ℕ) (v₀ v : List ℕ) (p : ℕ) → Carried axes d v₀ v 0 → p + 1 < size (take d axes) → ¬ (v₀ ≡ held (vectorAt (take d axes) p))
+wrapped axes d v₀ v p f h s = omega (arith, f .place, meant axes d v₀ v 0 f p h s)
+
+abbrev Inv-loop : tie.InvT-loop
+Inv-loop d axes next₀ i₀ next i = Carried axes d next₀ next i
+
+abbrev μ-loop : tie.MeasureT-loop
+μ-loop d axes next₀ i₀ next i = i
+
+-- src/lib.rt:36:5
+loop-holds : tie.Need-loop-holds Inv-loop μ-loop
+loop-holds c = start _ _ _ (length-take-le (c .args .d) (c .args .t1) (search needs)) (c .pre .1)
+
+-- src/lib.rt:37:9
+sub-i : tie.Need-sub-i Inv-loop μ-loop
+sub-i c = search needs
+
+-- src/lib.rt:38:17
+mul-x : tie.Need-mul-x Inv-loop μ-loop
+mul-x c = search needs
+
+-- src/lib.rt:38:17
+array-read-x : tie.Need-array-read-x Inv-loop μ-loop
+array-read-x c = search needs
+
+-- src/lib.rt:38:17
+add-x : tie.Need-add-x Inv-loop μ-loop
+add-x c =
+    let a = c .before .before .args in
+    let j = c .before .loop .i - 1 in
+    let most : Fits w64 (getD (a .t1) j 0) = search needs in
+    omega (arith, most .fits, below _ _ _ _ _ (c .before .loop .inv) (c .loop-test .taken))
+
+-- src/lib.rt:39:16
+mul-if1 : tie.Need-mul-if1 Inv-loop μ-loop
+mul-if1 c = search needs
+
+-- src/lib.rt:39:16
+array-read-if1 : tie.Need-array-read-if1 Inv-loop μ-loop
+array-read-if1 c = search needs
+
+-- src/lib.rt:40:13
+mul-next : tie.Need-mul-next Inv-loop μ-loop
+mul-next c = search needs
+
+-- src/lib.rt:40:13
+array-write-next : tie.Need-array-write-next Inv-loop μ-loop
+array-write-next c = search needs
+
+-- src/lib.rt:41:13
+returns : tie.Need-returns Inv-loop μ-loop
+returns c =
+    up _ _ _ _ _ (c .before .before .loop .inv) (c .before .loop-test .taken) (c .if1 .taken)
+
+-- src/lib.rt:43:9
+mul-next-2 : tie.Need-mul-next-2 Inv-loop μ-loop
+mul-next-2 c = search needs
+
+-- src/lib.rt:43:9
+array-write-next-2 : tie.Need-array-write-next-2 Inv-loop μ-loop
+array-write-next-2 c = search needs
+
+-- src/lib.rt:36:5
+loop-less : tie.Need-loop-less Inv-loop μ-loop
+loop-less c = search needs
+
+-- src/lib.rt:36:5
+loop-again : tie.Need-loop-again Inv-loop μ-loop
+loop-again c =
+    carry _ _ _ _ _ (c .before .before .loop .inv) (c .before .loop-test .taken) (c .if1 .left)
+
+-- src/lib.rt:29:1
+returns-2 : tie.Need-returns-2 Inv-loop μ-loop
+returns-2 c =
+    let e : c .before .loop .i ≡ 0 = omega arith in
+    λ p h s. absurd (wrapped _ _ _ _ p (rw e at (c .before .loop .inv)) h s)
+
+pub next-vector-spec : {M : Type 1} → statement M
+next-vector-spec =
+    tie.close
+    (tie.spec
+    Inv-loop
+    μ-loop
+    loop-holds
+    sub-i
+    mul-x
+    array-read-x
+    add-x
+    mul-if1
+    array-read-if1
+    mul-next
+    array-write-next
+    returns
+    mul-next-2
+    array-write-next-2
+    loop-less
+    loop-again
+    returns-2)

@@ -1,0 +1,17 @@
+-- A vector as the machine holds it: one value for each of the eight inputs that a file may have.
+--   held v        the vector v with zeros for the inputs that the files don't have
+--   Placed us v   v holds one of the vectors below the axes us
+use mathlib.Core.Path.{_≡_}
+use mathlib.Core.List.{List, _++_}
+use Prim.Native.Nat.{ℕ, _-_, _<_}
+use lib.ListN.{length, replicate}
+use Rattle.places.specs.Places.{size, vectorAt}
+use Rattle.sizes.specs.Sizes.{maxInputs}
+
+abbrev pub held : List ℕ → List ℕ
+held v = v ++ replicate (maxInputs - length v) 0
+
+pub record Placed (us v : List ℕ) : Type 0 where
+  pub place : ℕ
+  pub inside : place < size us
+  pub shape : v ≡ held (vectorAt us place)

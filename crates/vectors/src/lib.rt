@@ -1,0 +1,46 @@
+// The vectors of a grid, as the machine holds them: the one at a place, and the one after another.
+ghost use mathlib.Core.Path.{_≡_};
+ghost use Prim.Native.Nat.{ℕ, _+_, _≤_, _<_};
+ghost use lib.ListN.{take};
+ghost use Rattle.places.specs.Places.{size, vectorAt};
+ghost use Rattle.sizes.specs.Sizes.{maxInputs};
+ghost use Rattle.vectors.specs.Vectors.{held, Placed};
+
+// The vector at place p of the grid with the first d of the axes: the digits of p, the last input varying fastest.
+pub fn vector_at(axes: [u64; 8], d: usize, p: u64) -> [u64; 8]
+    requires { ⌜ d ≤ maxInputs ⌝ }
+    requires { ⌜ p < size (take d axes) ⌝ }
+    ensures { λ r. ⌜ r ≡ held (vectorAt (take d axes) p) ⌝ }
+{
+    let mut v = [0u64; 8];
+    let mut rest = p;
+    let mut i = d;
+    while 0 < i {
+        i -= 1;
+        let u = axes[i];
+        v[i] = rest % u;
+        rest = rest / u;
+    }
+    v
+}
+
+// The vector one place after v, one of the grid's vectors: from the last input backwards, an input at its last value goes to 0, and the
+// first that isn't goes up by 1. Where v is the last vector of all, every input goes to 0.
+pub fn next_vector(axes: [u64; 8], d: usize, v: [u64; 8]) -> [u64; 8]
+    requires { ⌜ d ≤ maxInputs ⌝ }
+    requires { ⌜ Placed (take d axes) v ⌝ }
+    ensures { λ r. ⌜ ((p : ℕ) → p + 1 < size (take d axes) → v ≡ held (vectorAt (take d axes) p) → r ≡ held (vectorAt (take d axes) (p + 1))) ⌝ }
+{
+    let mut next = v;
+    let mut i = d;
+    while 0 < i {
+        i -= 1;
+        let x = next[i] + 1;
+        if x < axes[i] {
+            next[i] = x;
+            return next;
+        }
+        next[i] = 0;
+    }
+    next
+}

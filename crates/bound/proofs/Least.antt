@@ -49,14 +49,19 @@ isBound m low high = record { divides = rw power at whole; least = least }
   where
     power : m - 1 + 1 ≡ m
     power = omega arith
+
     L : ℕ
     L = getD bounds (m - 1) 0
+
     tests : (eqb (factorial L % 2 ^ (m - 1 + 1)) 0 ≡ true) × (not (eqb (factorial (L - 1) % 2 ^ (m - 1 + 1)) 0) ≡ true)
     tests = and-eq-true-iff _ _ .0 (every-at right 0 64 (m - 1) all-right (omega arith) (omega arith))
+
     whole : factorial L % 2 ^ (m - 1 + 1) ≡ 0
     whole = eqb-true _ _ (tests .0)
+
     short : factorial (L - 1) % 2 ^ (m - 1 + 1) ≡ 0 → ⊥
     short = eqb-false _ _ (not-true _ (tests .1))
+
     least : (k : ℕ) → factorial k % 2 ^ m ≡ 0 → L ≤ k
     least k e =
         elim (decLe L k)

@@ -44,14 +44,16 @@ module _ (s x : List ℕ) (len : ℕ) where
 
   pub passed : refusalAt s x len .number ≡ 0 → Passed
   passed e =
-      elim (ℕ-discrete (fileNumber s) 0)
-      [ yes f ↦ elim (decLt len (stepCount s))
-          [ yes l ↦ absurd (omega (arith, e, ap number (at-12 f l)))
+      elim (ℕ-discrete (fileNumber s) 0) [
+        | yes f ↦ elim (decLt len (stepCount s)) [
+          | yes l ↦ absurd (omega (arith, e, ap number (at-12 f l)))
           | no g ↦ ⊎-elim
               (λ (b : badVector (sizesOf s) x ≡ true). absurd (omega (arith, e, ap number (at-14 f (omega arith) b))))
               (λ (b : badVector (sizesOf s) x ≡ false). record { sound = f; room = omega arith; fits = b })
-              (true-or-false (badVector (sizesOf s) x)) ]
-      | no n ↦ absurd (n (sym (refusal-number s 1) ∙ sym (ap number (at-file n)) ∙ e)) ]
+              (true-or-false (badVector (sizesOf s) x))
+        ]
+        | no n ↦ absurd (n (sym (refusal-number s 1) ∙ sym (ap number (at-file n)) ∙ e))
+      ]
     where
       number : Refusal → ℕ
       number r = r .number

@@ -52,11 +52,13 @@ module _ (s x : List ℕ) (vs : List ℤ) (k r : ℕ) where
       Right
   unfolding stepValue combined
   combined-word low high e =
-      elim (ℕ-discrete (operation s k) 3)
-      [ yes o ↦ rw (step-add s k o) (e ∙ rw (eq-eqb (operation s k) 3 o))
-      | no n ↦ elim (ℕ-discrete (operation s k) 4)
-          [ yes o ↦ rw (step-subtract s k o) (e ∙ rw (ne-eqb (operation s k) 3 n, eq-eqb (operation s k) 4 o))
-          | no m ↦ rw (step-multiply s k (omega arith)) (e ∙ rw (ne-eqb (operation s k) 3 n, ne-eqb (operation s k) 4 m)) ] ]
+      elim (ℕ-discrete (operation s k) 3) [
+        | yes o ↦ rw (step-add s k o) (e ∙ rw (eq-eqb (operation s k) 3 o))
+        | no n ↦ elim (ℕ-discrete (operation s k) 4) [
+          | yes o ↦ rw (step-subtract s k o) (e ∙ rw (ne-eqb (operation s k) 3 n, eq-eqb (operation s k) 4 o))
+          | no m ↦ rw (step-multiply s k (omega arith)) (e ∙ rw (ne-eqb (operation s k) 3 n, ne-eqb (operation s k) 4 m))
+        ]
+      ]
 
 -- the last value cut to m bits is the output
 pub output-word :

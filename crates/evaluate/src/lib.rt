@@ -1,8 +1,16 @@
 // Evaluating a datapath file at a vector.
 use file::check;
-use file::fields::{argument, left_operand, operation, read_sizes, right_operand, step_count};
-use sizes::{Refusal, Sizes, refused_by};
-use words::{cut, wrapping_mul};
+use file::fields::argument;
+use file::fields::left_operand;
+use file::fields::operation;
+use file::fields::read_sizes;
+use file::fields::right_operand;
+use file::fields::step_count;
+use sizes::Refusal;
+use sizes::Sizes;
+use sizes::refused_by;
+use words::cut;
+use words::wrapping_mul;
 ghost use mathlib.Core.Path.{_≡_};
 ghost use mathlib.Core.List.{_++_, map};
 ghost use Prim.Native.Nat.{_≤_, _<_};

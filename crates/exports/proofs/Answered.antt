@@ -50,12 +50,13 @@ module _ (s : List ℕ) where
       (start n : ℕ) → n ≡ length (stretchOf s) → ((n ≡ 0) × (start ≡ 0)) ⊎ ((¬ (n ≡ 0)) × (start ≡ headLength)) →
       start ∷ n ∷ [] ≡ operationWords s
   operations-told start n e t =
-      elim (ℕ-discrete (fileNumber s) 0)
-      [ yes z ↦ let l = stretch-length z in
-          ⊎-elim (λ w. absurd (omega (arith, e, l, accepted s z .countLow, w .0))) (λ w. cc (operations-accepted z)) t
-      | no x ↦ let l = stretch-refused s x in
-          let k : length (stretchOf s) ≡ 0 = rw l in
-          ⊎-elim (λ w. cc (operations-refused x)) (λ w. absurd (w .0 (e ∙ k))) t ]
+      elim (ℕ-discrete (fileNumber s) 0) [
+        | yes z ↦ let l = stretch-length z in
+            ⊎-elim (λ w. absurd (omega (arith, e, l, accepted s z .countLow, w .0))) (λ w. cc (operations-accepted z)) t
+        | no x ↦ let l = stretch-refused s x in
+            let k : length (stretchOf s) ≡ 0 = rw l in
+            ⊎-elim (λ w. cc (operations-refused x)) (λ w. absurd (w .0 (e ∙ k))) t
+      ]
 
   pub grid-refused : ¬ (fileNumber s ≡ 0) → gridWords s ≡ refusalWords (refusalOf 1 s) ++ (0 ∷ 0 ∷ 0 ∷ 0 ∷ 0 ∷ 0 ∷ 0 ∷ 0 ∷ 0 ∷ [])
   unfolding gridWords

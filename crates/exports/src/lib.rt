@@ -2,8 +2,9 @@
 // the header gives, and 0, with nothing touched, where it has another.
 use bound::bound;
 use evaluate::evaluate;
+use file::check;
 use file::fields::read_sizes;
-use file::{check, operations};
+use file::operations;
 use grid::grid_of;
 use sizes::within;
 ghost use mathlib.Core.Path.{_≡_};
@@ -11,7 +12,15 @@ ghost use lib.ListN.{length};
 ghost use Rattle.evaluate.specs.Evaluate.{evaluatedAt};
 ghost use Rattle.file.specs.Check.{refusalOf};
 ghost use Rattle.exports.specs.Words.{
-    rightLength, answered, refusalWords, operationWords, boundWords, gridWords, evaluateWords, evaluateScratch};
+  rightLength,
+  answered,
+  refusalWords,
+  operationWords,
+  boundWords,
+  gridWords,
+  evaluateWords,
+  evaluateScratch,
+};
 
 // The words are copied into a slice of the same length.
 fn copy_words(out: &mut [u64], words: &[u64])
@@ -85,14 +94,35 @@ pub extern "C" fn corkbingo_grid(file: &[u8], out: &mut [u64]) -> u32
     }
     let g = grid_of(read_sizes(file));
     let u = g.axes;
-    copy_words(out, &[0, 0, 0, u[0], u[1], u[2], u[3], u[4], u[5], u[6], u[7], g.size]);
+    copy_words(
+        out,
+        &[
+            0,
+            0,
+            0,
+            u[0],
+            u[1],
+            u[2],
+            u[3],
+            u[4],
+            u[5],
+            u[6],
+            u[7],
+            g.size,
+        ],
+    );
     1
 }
 
 // The output of a file at a vector: out has 4 words and gets the refusal and the output. Of the scratch slice the first N entries are zero
 // afterwards where the call is accepted; nothing else is touched.
 #[no_mangle]
-pub extern "C" fn corkbingo_evaluate(file: &[u8], vector: &[u64], scratch: &mut [u64], out: &mut [u64]) -> u32
+pub extern "C" fn corkbingo_evaluate(
+    file: &[u8],
+    vector: &[u64],
+    scratch: &mut [u64],
+    out: &mut [u64],
+) -> u32
     ensures { λ r. ⌜ (r ≡ rightLength 4 (now (out .entry))) × (now (out .exit) ≡ answered 4 (now (out .entry)) (evaluateWords (evaluatedAt (now (file .entry)) (now (vector .entry)) (length (now (scratch .entry)))))) × (now (scratch .exit) ≡ evaluateScratch (now (file .entry)) (now (vector .entry)) (now (scratch .entry)) (now (out .entry))) ⌝ }
 {
     if out.len() != 4 {

@@ -23,11 +23,7 @@ fn axis(m: u64, n: u64) -> u64
         return most;
     }
     let all = 1 << n;
-    if all < most {
-        all
-    } else {
-        most
-    }
+    if all < most { all } else { most }
 }
 
 // The grid of sizes with m from 1 to 64 and at most 8 inputs: each axis is the smaller of 2^n and L(m), and the size is their product.

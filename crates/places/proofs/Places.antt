@@ -84,8 +84,9 @@ before-place (u ∷ us) p q h k =
     (digits-order (size us) p q s h)
 
 pub inOrder : (us : List ℕ) → InOrder us
-inOrder us p q hp hq =
-    (λ (h : p < q). before-place us p q h hq,
-    λ (b : Before (vectorAt us p) (vectorAt us q)).
-        let l = place-before us (vectorAt us p) (vectorAt us q) (below us p hp) (below us q hq) b in
-        omega (arith, placed us p hp, placed us q hq))
+inOrder us p q hp hq = (
+  λ (h : p < q). before-place us p q h hq,
+  λ (b : Before (vectorAt us p) (vectorAt us q)).
+      let l = place-before us (vectorAt us p) (vectorAt us q) (below us p hp) (below us q hq) b in
+      omega (arith, placed us p hp, placed us q hq),
+)

@@ -82,9 +82,10 @@ module _ (f₁ f₂ : List ℕ) (pair : isRefusal (pairRefusal f₁ f₂) ≡ fa
             at = rw (← add-assoc S n (budgets z′ cs)) (rest .at);
             silent = λ l. (call .silent (omega arith), rest .silent (omega arith));
             finished = λ l h.
-              elim (decLt (S + n) D)
-              [ yes u ↦ finished-later u (rest .finished u (omega arith))
-              | no v ↦ finished-here l (omega arith) ];
+                elim (decLt (S + n) D) [
+                  | yes u ↦ finished-later u (rest .finished u (omega arith))
+                  | no v ↦ finished-here l (omega arith)
+                ];
             closed = λ h. (call .closed h, rest .closed (omega arith));
           }
 
@@ -118,9 +119,9 @@ module _ (f₁ f₂ : List ℕ) (pair : isRefusal (pairRefusal f₁ f₂) ≡ fa
       let at = rw zero-add at (all .at) in
       record {
         refused = λ before c after split own.
-          let earlier = allowed-before f₁ f₂ (start f₁ f₂) before (c ∷ after) (subst (Allowed f₁ f₂ (start f₁ f₂)) split allowed) in
-          let here = onward 0 (start f₁ f₂) at-start before earlier in
-          own-refused f₁ f₂ (budgets (start f₁ f₂) before) (sessionAfter (start f₁ f₂) before) (rw zero-add at (here .at)) pair c own;
+            let earlier = allowed-before f₁ f₂ (start f₁ f₂) before (c ∷ after) (subst (Allowed f₁ f₂ (start f₁ f₂)) split allowed) in
+            let here = onward 0 (start f₁ f₂) at-start before earlier in
+            own-refused f₁ f₂ (budgets (start f₁ f₂) before) (sessionAfter (start f₁ f₂) before) (rw zero-add at (here .at)) pair c own;
         run = omega (arith, all .run);
         position = at .position;
         unfinished = λ l. (at .mark ∙ mark-open f₁ f₂ _ l, all .silent (omega arith));

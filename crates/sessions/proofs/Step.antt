@@ -187,9 +187,16 @@ module _ (f₁ f₂ : List ℕ) where
       unfolding continueRefusal misplaced isClosed
       accepted-call b n l =
           let inside : z .position < G = omega (arith, at .position, stop-range .0) in
-          rw
-          (ne-eqb B 0 (omega arith), pair, le-ltb len (largerCount f₁ f₂) n, at .sizes, same-refl, at .mark, mark-open S l,
-          lt-ltb (z .position) G inside)
+          rw (
+            ne-eqb B 0 (omega arith),
+            pair,
+            le-ltb len (largerCount f₁ f₂) n,
+            at .sizes,
+            same-refl,
+            at .mark,
+            mark-open S l,
+            lt-ltb (z .position) G inside,
+          )
 
       closed-call : 0 < B → largerCount f₁ f₂ ≤ len → D ≤ S → isRefusal (continueRefusal f₁ f₂ z B len) ≡ true
       unfolding continueRefusal
@@ -214,28 +221,32 @@ module _ (f₁ f₂ : List ℕ) where
 
       barred-or-free : Bar ⊎ ((0 < B) × (largerCount f₁ f₂ ≤ len) × (S < D))
       barred-or-free =
-          elim (decLt 0 B)
-          [ yes b ↦ elim (decLt len (largerCount f₁ f₂))
-              [ yes l ↦ inl (inr (inl l))
-              | no n ↦ elim (decLt S D) [ yes u ↦ inr (b, omega arith, u) | no v ↦ inl (inr (inr (omega arith))) ] ]
-          | no e ↦ inl (inl (omega arith)) ]
+          elim (decLt 0 B) [
+            | yes b ↦ elim (decLt len (largerCount f₁ f₂)) [
+              | yes l ↦ inl (inr (inl l))
+              | no n ↦ elim (decLt S D) [ yes u ↦ inr (b, omega arith, u) | no v ↦ inl (inr (inr (omega arith))) ]
+            ]
+            | no e ↦ inl (inl (omega arith))
+          ]
 
       barred : Bar → isRefusal (continueRefusal f₁ f₂ z B len) ≡ true
       barred (inl b) = empty-call b
       barred (inr (inl l)) = elim (decLt 0 B) [ yes b ↦ short-call b l | no e ↦ empty-call (omega arith) ]
       barred (inr (inr l)) =
-          elim (decLt 0 B)
-          [ yes b ↦ elim (decLt len (largerCount f₁ f₂)) [ yes k ↦ short-call b k | no n ↦ closed-call b (omega arith) l ]
-          | no e ↦ empty-call (omega arith) ]
+          elim (decLt 0 B) [
+            | yes b ↦ elim (decLt len (largerCount f₁ f₂)) [ yes k ↦ short-call b k | no n ↦ closed-call b (omega arith) l ]
+            | no e ↦ empty-call (omega arith)
+          ]
 
       refused-exactly : (isRefusal (continueRefusal f₁ f₂ z B len) ≡ true) ↔ Bar
-      refused-exactly =
-          (λ r.
-          ⊎-elim
-          (λ (b : Bar). b)
-          (λ f. absurd (let e = accepted-call (f .0) (f .1) (f .2) in let q : _≡_ {A = ℕ} 0 1 = cc in omega arith))
-          barred-or-free,
-          barred)
+      refused-exactly = (
+        λ r.
+            ⊎-elim
+            (λ (b : Bar). b)
+            (λ f. absurd (let e = accepted-call (f .0) (f .1) (f .2) in let q : _≡_ {A = ℕ} 0 1 = cc in omega arith))
+            barred-or-free,
+        barred,
+      )
 
       accepted-progress :
           0 < B → largerCount f₁ f₂ ≤ len → S < D →
@@ -339,9 +350,10 @@ module _ (f₁ f₂ : List ℕ) where
 
         accepted-step : Stepped S B (continued f₁ f₂ z B len)
         accepted-step =
-            elim (decLt (S + B) D)
-            [ yes h ↦ spent-step h
-            | no k ↦ elim (decLt place G) [ yes p ↦ differs-step p (omega arith) | no g ↦ equivalent-step (omega arith) (omega arith) ] ]
+            elim (decLt (S + B) D) [
+              | yes h ↦ spent-step h
+              | no k ↦ elim (decLt place G) [ yes p ↦ differs-step p (omega arith) | no g ↦ equivalent-step (omega arith) (omega arith) ]
+            ]
 
       own-answer : OwnFiles f₁ f₂ c → answerTo z c ≡ continued f₁ f₂ z B len
       unfolding answerTo

@@ -113,8 +113,9 @@ module _ (f₁ f₂ : List ℕ) (pair : isRefusal (pairRefusal f₁ f₂) ≡ fa
       let first = first-differs p in
       rw (e, at-stop p)
       (record {
-        equivalent =
-            (λ d. absurd (let q : _≡_ {A = ℕ} 0 1 = cc in omega arith),
-             λ all. absurd (first .differs (same-outputs _ .0 (all (stopVector f₁ f₂) (first .fullWidth)))));
+        equivalent = (
+          λ d. absurd (let q : _≡_ {A = ℕ} 0 1 = cc in omega arith),
+          λ all. absurd (first .differs (same-outputs _ .0 (all (stopVector f₁ f₂) (first .fullWidth)))),
+        );
         differs = λ _. record { first = first; vector = refl; output₁ = refl; output₂ = refl };
       })

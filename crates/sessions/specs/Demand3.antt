@@ -90,16 +90,16 @@ start f₁ f₂ = opened f₁ f₂ .session
 
 pub record Whole (f₁ f₂ : List ℕ) (cs : List Call) : Type 0 where
   pub refused :
-    (before : List Call) (c : Call) (after : List Call) →
-    cs ≡ before ++ c ∷ after →
-    OwnFiles f₁ f₂ c →
-    IsRefused (answerTo (sessionAfter (start f₁ f₂) before) c .answer) ↔
-    ((c .budget ≡ 0) ⊎ ((c .scratch < largerCount f₁ f₂) ⊎ (stop f₁ f₂ ≤ budgets (start f₁ f₂) before)))
+      (before : List Call) (c : Call) (after : List Call) →
+      cs ≡ before ++ c ∷ after →
+      OwnFiles f₁ f₂ c →
+      IsRefused (answerTo (sessionAfter (start f₁ f₂) before) c .answer) ↔
+      ((c .budget ≡ 0) ⊎ ((c .scratch < largerCount f₁ f₂) ⊎ (stop f₁ f₂ ≤ budgets (start f₁ f₂) before)))
   pub run : vectorsRun (answers (start f₁ f₂) cs) ≡ min (budgets (start f₁ f₂) cs) (stop f₁ f₂)
   pub position : sessionAfter (start f₁ f₂) cs .position ≡ min (budgets (start f₁ f₂) cs) (stop f₁ f₂)
   pub unfinished :
-    budgets (start f₁ f₂) cs < stop f₁ f₂ →
-    (sessionAfter (start f₁ f₂) cs .mark ≡ Open) × Each (λ a. ¬ IsVerdict a) (answers (start f₁ f₂) cs)
+      budgets (start f₁ f₂) cs < stop f₁ f₂ →
+      (sessionAfter (start f₁ f₂) cs .mark ≡ Open) × Each (λ a. ¬ IsVerdict a) (answers (start f₁ f₂) cs)
   pub finished : stop f₁ f₂ ≤ budgets (start f₁ f₂) cs → Finished f₁ f₂ (start f₁ f₂) cs
 
 abbrev pub Demand3 : Type 0

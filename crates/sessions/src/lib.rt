@@ -1,5 +1,6 @@
 // Sessions: opening one on two files, and continuing it under a budget.
-use sizes::{Refusal, Sizes};
+use sizes::Refusal;
+use sizes::Sizes;
 
 // How far a comparison has come: still open, or closed by a verdict.
 pub enum Mark {

@@ -3,7 +3,7 @@ use mathlib.Core.Path.{_≡_, refl, sym, _∙_, ap, ap₂}
 use mathlib.Core.List.{List, [], _∷_, _++_}
 use Prim.Native.Nat.{ℕ, zero, suc, _+_}
 use native.Mathlib.Numerals.{add-one}
-use lib.IntN.{pos}
+use lib.IntN.{ℤ}
 use lib.ListN.{length, getD, length-append}
 use Rattle.steps.specs.Steps.{Step, input, constant, add, subtract, multiply, inputValue, stepValue, values}
 
@@ -17,3 +17,17 @@ pub values-more :
     values ts x (k + 1) ≡ values ts x k ++ (stepValue x (values ts x k) (getD ts k (constant 0)) ∷ [])
 unfolding values
 values-more ts x k = rw add-one
+
+step-entries : (x y : List ℕ) (vs : List ℤ) (t : Step) → ((i : ℕ) → getD x i 0 ≡ getD y i 0) → stepValue x vs t ≡ stepValue y vs t
+unfolding stepValue
+step-entries x y vs (input i) e = ap inputValue (e i)
+step-entries x y vs (constant c) e = refl
+step-entries x y vs (add l r) e = refl
+step-entries x y vs (subtract l r) e = refl
+step-entries x y vs (multiply l r) e = refl
+
+pub values-entries : (ts : List Step) (x y : List ℕ) (k : ℕ) → ((i : ℕ) → getD x i 0 ≡ getD y i 0) → values ts x k ≡ values ts y k
+unfolding values
+values-entries ts x y zero e = refl
+values-entries ts x y (suc k) e =
+    rw (values-entries ts x y k e) (ap (λ v. values ts y k ++ (v ∷ [])) (step-entries x y (values ts y k) (getD ts k (constant 0)) e))

@@ -66,9 +66,9 @@ module _ (pre post : List ℕ) where
     input-valued i =
         ⊎-elim
         (λ (e : eqb i (length pre) ≡ true).
-          rw (e, eqb-true i (length pre) e, getD-append-seam pre t post 0) (sym (value-shifted (pos 0) (pos t) ∙ +ℤ-idl (pos t))))
+        rw (e, eqb-true i (length pre) e, getD-append-seam pre t post 0) (sym (value-shifted (pos 0) (pos t) ∙ +ℤ-idl (pos t))))
         (λ (e : eqb i (length pre) ≡ false).
-          rw (e, getD-other pre post t 0 i (eqb-false i (length pre) e)) (sym (value-constant _ (pos t))))
+        rw (e, getD-other pre post t 0 i (eqb-false i (length pre) e)) (sym (value-constant _ (pos t))))
         (true-or-false (eqb i (length pre)))
 
     operand : (ps : List (List ℤ)) (l : ℕ) → getD (map at ps) l (pos 0) ≡ at (getD ps l [])
@@ -106,10 +106,12 @@ agree-along m low high ts₁ ts₂ pre post agrees x =
   where
     p : List ℤ
     p = Newton.sub (exactPolynomial pre post ts₁) (exactPolynomial pre post ts₂)
+
     gap : (t : ℕ) → exact ts₁ (pre ++ t ∷ post) -ℤ exact ts₂ (pre ++ t ∷ post) ≡ value p (pos t)
     gap t =
         ap₂ (λ y z. y -ℤ z) (exact-valued pre post t ts₁) (exact-valued pre post t ts₂)
         ∙ sym (value-sub (exactPolynomial pre post ts₁) (exactPolynomial pre post ts₂) (pos t))
+
     below : (t : ℕ) → t < bound m → Divides (2 ^ m) (value p (pos t))
     below t h =
         rw (gap t) at (equal→congruent (exact ts₁ (pre ++ t ∷ post)) (exact ts₂ (pre ++ t ∷ post)) (2 ^ m) (pow-pos m) (agrees t h))

@@ -46,14 +46,17 @@ module _ (m : ℕ) (low : 1 ≤ m) (high : m ≤ 64) (ts₁ ts₂ : List Step) w
   -- the outputs differ at some value below L(m) of an input, where they differ at any of its values
   lower : (pre post : List ℕ) (x : ℕ) → Differ (pre ++ x ∷ post) → (t : ℕ) × (t < bound m) × Differ (pre ++ t ∷ post)
   lower pre post x d =
-      elim (decLt t (bound m))
-      [ yes l ↦ (t, l, not-equal _ _ (first-found differs 0 (bound m) (omega arith)))
-      | no g ↦ absurd (d (agree-along m low high ts₁ ts₂ pre post (all g) x)) ]
+      elim (decLt t (bound m)) [
+        | yes l ↦ (t, l, not-equal _ _ (first-found differs 0 (bound m) (omega arith)))
+        | no g ↦ absurd (d (agree-along m low high ts₁ ts₂ pre post (all g) x))
+      ]
     where
       differs : ℕ → Bool
       differs u = not (eqb (output m ts₁ (pre ++ u ∷ post)) (output m ts₂ (pre ++ u ∷ post)))
+
       t : ℕ
       t = first differs 0 (bound m)
+
       all : ¬ (t < bound m) → (u : ℕ) → u < bound m → Agree m ts₁ ts₂ (pre ++ u ∷ post)
       all g u h = equal _ _ (first-before differs 0 (bound m) u (omega arith) (omega arith))
 
@@ -63,9 +66,10 @@ module _ (m : ℕ) (low : 1 ≤ m) (high : m ≤ 64) (ts₁ ts₂ : List Step) w
       (t : ℕ) × (t < axis m n) × (t ≤ x) × Differ (pre ++ t ∷ post)
   unfolding axis
   lowered n pre post x h d =
-      elim (decLt x (bound m))
-      [ yes l ↦ (x, omega arith, omega arith, d)
-      | no g ↦ let r = lower pre post x d in (r .0, omega (arith, r .1), omega (arith, r .1), r .2) ]
+      elim (decLt x (bound m)) [
+        | yes l ↦ (x, omega arith, omega arith, d)
+        | no g ↦ let r = lower pre post x d in (r .0, omega (arith, r .1), omega (arith, r .1), r .2)
+      ]
 
   -- a vector of the grid at which the outputs differ, the same as a full-width one or before it
   record Reached (ns pre xs : List ℕ) : Type 0 where
@@ -107,9 +111,10 @@ module _ (m : ℕ) (low : 1 ≤ m) (high : m ≤ 64) (ts₁ ts₂ : List Step) w
     placed-after : (y : List ℕ) → Below us y → Differ y → stop ≤ placeOf us y
     unfolding firstDifference differsAt
     placed-after y b d =
-        elim (decLt (placeOf us y) stop)
-        [ yes l ↦ absurd (d (subst (Agree m ts₁ ts₂) (oneToOne us .found y b) (equal _ _ (first-before (differsAt m us ts₁ ts₂) 0 (size us) (placeOf us y) (omega arith) l))))
-        | no g ↦ omega arith ]
+        elim (decLt (placeOf us y) stop) [
+          | yes l ↦ absurd (d (subst (Agree m ts₁ ts₂) (oneToOne us .found y b) (equal _ _ (first-before (differsAt m us ts₁ ts₂) 0 (size us) (placeOf us y) (omega arith) l))))
+          | no g ↦ omega arith
+        ]
 
     from-grid : ((y : List ℕ) → Below us y → Agree m ts₁ ts₂ y) → (x : List ℕ) → Below (ranges ns) x → Agree m ts₁ ts₂ x
     from-grid all x b =
@@ -134,11 +139,11 @@ module _ (m : ℕ) (low : 1 ≤ m) (high : m ≤ 64) (ts₁ ts₂ : List Step) w
         let q = placeOf us y in
         let back = oneToOne us .found y (r .onGrid) in
         let y-before : Before y (vectorAt us stop) =
-              ⊎-elim (λ (e : y ≡ w). rw e h) (λ (c : Before y w). before-trans y w (vectorAt us stop) c h) (r .order) in
+        ⊎-elim (λ (e : y ≡ w). rw e h) (λ (c : Before y w). before-trans y w (vectorAt us stop) c h) (r .order) in
         ⊎-elim
         (λ (e : stop ≡ q). before-irrefl y (subst (Before y) (ap (vectorAt us) e ∙ back) y-before))
         (λ (c : stop < q). before-irrefl y (before-trans y (vectorAt us stop) y y-before
-          (subst (Before (vectorAt us stop)) back (before-place us stop q c (oneToOne us .inside y (r .onGrid))))))
+        (subst (Before (vectorAt us stop)) back (before-place us stop q c (oneToOne us .inside y (r .onGrid))))))
         (eq-or-lt-of-le (placed-after y (r .onGrid) (r .differs)))
 
 pub gridTheorem : GridTheorem
@@ -147,6 +152,6 @@ gridTheorem m low high ns ts₁ ts₂ =
       settled = (λ all x b. all x (grid-full m ns x b), from-grid m low high ts₁ ts₂ ns);
       none = none m low high ts₁ ts₂ ns;
       some = λ l.
-        let b = oneToOne (axes m ns) .below _ l in
-        (b, record { fullWidth = grid-full m ns _ b; differs = found m low high ts₁ ts₂ ns l; earliest = earliest m low high ts₁ ts₂ ns l });
+          let b = oneToOne (axes m ns) .below _ l in
+          (b, record { fullWidth = grid-full m ns _ b; differs = found m low high ts₁ ts₂ ns l; earliest = earliest m low high ts₁ ts₂ ns l });
     }

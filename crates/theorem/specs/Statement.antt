@@ -14,17 +14,17 @@ use Rattle.theorem.specs.Comparison.{Agree, firstDifference, IsFirst}
 
 pub record OnGrid (m : ℕ) (ns : List ℕ) (ts₁ ts₂ : List Step) : Type 0 where
   pub settled :
-    ((x : List ℕ) → Below (ranges ns) x → Agree m ts₁ ts₂ x) ↔
-    ((x : List ℕ) → Below (axes m ns) x → Agree m ts₁ ts₂ x)
+      ((x : List ℕ) → Below (ranges ns) x → Agree m ts₁ ts₂ x) ↔
+      ((x : List ℕ) → Below (axes m ns) x → Agree m ts₁ ts₂ x)
   pub none :
-    firstDifference m (axes m ns) ts₁ ts₂ ≡ size (axes m ns) →
-    (x : List ℕ) →
-    Below (ranges ns) x →
-    Agree m ts₁ ts₂ x
+      firstDifference m (axes m ns) ts₁ ts₂ ≡ size (axes m ns) →
+      (x : List ℕ) →
+      Below (ranges ns) x →
+      Agree m ts₁ ts₂ x
   pub some :
-    firstDifference m (axes m ns) ts₁ ts₂ < size (axes m ns) →
-    Below (axes m ns) (vectorAt (axes m ns) (firstDifference m (axes m ns) ts₁ ts₂)) ×
-    IsFirst m ns ts₁ ts₂ (vectorAt (axes m ns) (firstDifference m (axes m ns) ts₁ ts₂))
+      firstDifference m (axes m ns) ts₁ ts₂ < size (axes m ns) →
+      Below (axes m ns) (vectorAt (axes m ns) (firstDifference m (axes m ns) ts₁ ts₂)) ×
+      IsFirst m ns ts₁ ts₂ (vectorAt (axes m ns) (firstDifference m (axes m ns) ts₁ ts₂))
 
 abbrev pub GridTheorem : Type 0
 GridTheorem = (m : ℕ) → 1 ≤ m → m ≤ 64 → (ns : List ℕ) (ts₁ ts₂ : List Step) → OnGrid m ns ts₁ ts₂

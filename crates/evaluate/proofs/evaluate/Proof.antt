@@ -70,11 +70,12 @@ output-at-requires c κs =
 -- src/lib.rt:150:5
 clear-requires : tie.Need-clear-requires
 clear-requires c κs =
-    omega
-    (arith,
-    free (c .before .before .before .before .before .before) .room,
-    c .before .before .before .before .before .step-count .ensures .0,
-    c .before .before .before .output-at .kept .1 .1 .1 .0)
+    omega (
+      arith,
+      free (c .before .before .before .before .before .before) .room,
+      c .before .before .before .before .before .step-count .ensures .0,
+      c .before .before .before .output-at .kept .1 .1 .1 .0,
+    )
 
 -- src/lib.rt:140:1
 same-length : tie.Need-same-length
@@ -88,12 +89,13 @@ returns-2 c =
     let g = c .before .before .before .before .before .before .before .before .before in
     let n = c .before .before .before .before .before .before .before .before .step-count .ensures .0 in
     let o = c .before .before .before .before .before .before .output-at .ensures in
-    let w = answer-accepted (now (a .file)) (now (a .vector)) (now (a .scratch)) (sym (number (g .before)) ∙ g .if1 .left) in
-    (ap₂ answer (g .before .refusal-at .ensures) (o .0) ∙ w .0,
-    c .before .before .clear .ensures
-    ∙ ap (λ l. replicate (c .before .before .before .before .before .before .before .before .step-count .result) 0 ++ l) (o .1)
-    ∙ ap (λ k. replicate k 0 ++ drop k (now (a .scratch))) n
-    ∙ w .1)
+    let w = answer-accepted (now (a .file)) (now (a .vector)) (now (a .scratch)) (sym (number (g .before)) ∙ g .if1 .left) in (
+      ap₂ answer (g .before .refusal-at .ensures) (o .0) ∙ w .0,
+      c .before .before .clear .ensures
+          ∙ ap (λ l. replicate (c .before .before .before .before .before .before .before .before .step-count .result) 0 ++ l) (o .1)
+          ∙ ap (λ k. replicate k 0 ++ drop k (now (a .scratch))) n
+          ∙ w .1,
+    )
 
 pub evaluate-spec : {M : Type 1} → statement M
 evaluate-spec =

@@ -59,12 +59,13 @@ unfolding sizesOf
 returns c =
     let a = c .before .before .before .before .before .before .before .before .before .before .args in
     let p = c .before .before .before .before .before .before .before .before .before .before .pre in
-    let e = c .before .before .before .before .before .run .ensures in
-    (c .cut .ensures
-    ∙ ap (λ l. getD l (a .n - 1) 0 % 2 ^ getD (now (a .file)) 0 0) e
-    ∙ output-word (now (a .file)) (now (a .vector)) (drop (a .n) (now (a .scratch))) (p .sound) (a .n) (p .count),
-    ap (drop (a .n)) e
-    ∙ drop-at (map word (values (stepsOf (now (a .file))) (now (a .vector)) (a .n))) (drop (a .n) (now (a .scratch))) (a .n) (rw (length-map, length-values)))
+    let e = c .before .before .before .before .before .run .ensures in (
+      c .cut .ensures
+          ∙ ap (λ l. getD l (a .n - 1) 0 % 2 ^ getD (now (a .file)) 0 0) e
+          ∙ output-word (now (a .file)) (now (a .vector)) (drop (a .n) (now (a .scratch))) (p .sound) (a .n) (p .count),
+      ap (drop (a .n)) e
+          ∙ drop-at (map word (values (stepsOf (now (a .file))) (now (a .vector)) (a .n))) (drop (a .n) (now (a .scratch))) (a .n) (rw (length-map, length-values)),
+    )
 
 pub output-at-spec : {M : Type 1} → statement M
 output-at-spec =

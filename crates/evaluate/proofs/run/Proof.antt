@@ -47,12 +47,14 @@ module _ (s : List ℕ) (n : ℕ) (x scratch₀ scratch : List ℕ) (k : ℕ) (r
     where
       some : 0 < length (drop k scratch₀)
       some = rw length-drop (omega (arith, r .room))
+
       next : map word (values (stepsOf s) x (k + 1)) ≡ map word (values (stepsOf s) x k) ++ (v ∷ [])
       next =
           ap (map word) (values-more (stepsOf s) x k)
           ∙ map-append word (values (stepsOf s) x k) (stepValue x (values (stepsOf s) x k) (getD (stepsOf s) k (constant 0)) ∷ [])
           ∙ ap (λ t. map word (values (stepsOf s) x k) ++ (word (stepValue x (values (stepsOf s) x k) t) ∷ [])) (steps-at s k (omega (arith, r .count)))
           ∙ ap (λ w. map word (values (stepsOf s) x k) ++ (w ∷ [])) (sym e)
+
       extended : set (map word (values (stepsOf s) x k) ++ drop k scratch₀) k v ≡ map word (values (stepsOf s) x (k + 1)) ++ drop (k + 1) scratch₀
       extended =
           set-front (map word (values (stepsOf s) x k)) (drop k scratch₀) k v front some

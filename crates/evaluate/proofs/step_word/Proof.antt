@@ -48,7 +48,7 @@ operands c =
     let sound = p .0 .ready .sound in
     let h : k < stepCount (now (c .before .before .before .before .before .before .before .args .file)) = omega (arith, p .0 .ready .count) in
     let low : 3 ≤ operation (now (c .before .before .before .before .before .before .before .args .file)) k =
-          omega (arith, sound .operationLow k h, c .before .before .before .operation .ensures .0, c .if2 .left, c .before .if1 .left) in
+    omega (arith, sound .operationLow k h, c .before .before .before .operation .ensures .0, c .if2 .left, c .before .if1 .left) in
     record { low = low; high = sound .operationHigh k h; left = sound .leftBefore k h low; right = sound .rightBefore k h low }
 
 -- src/lib.rt:84:9
@@ -104,11 +104,12 @@ mul-right c = search needs
 -- src/lib.rt:93:17
 shared-slice-read-right : tie.Need-shared-slice-read-right
 shared-slice-read-right c =
-    omega
-    (arith,
-    operands (c .before .before .before .before) .right,
-    c .before .right-operand .ensures .0,
-    ap rightOperand (c .before .before .before .before .before .before .argument .ensures .0))
+    omega (
+      arith,
+      operands (c .before .before .before .before) .right,
+      c .before .right-operand .ensures .0,
+      ap rightOperand (c .before .before .before .before .before .before .argument .ensures .0),
+    )
 
 -- src/lib.rt:94:5
 combine-requires : tie.Need-combine-requires

@@ -26,8 +26,10 @@ module _ (out₀ words out : List ℕ) (i : ℕ) (e : length out₀ ≡ length w
     where
       some : 0 < length (drop i out₀)
       some = rw length-drop (omega arith)
+
       next : take (i + 1) words ≡ take i words ++ (getD words i 0 ∷ [])
       next = rw (add-one i) (take-suc words i 0 l)
+
       extended : set (take i words ++ drop i out₀) i (getD words i 0) ≡ take (i + 1) words ++ drop (i + 1) out₀
       extended =
           set-front (take i words) (drop i out₀) i (getD words i 0) (length-take-le i words (h .within)) some

@@ -66,9 +66,10 @@ read-sizes-requires c κs = rules c .long
 grid-of-requires : tie.Need-grid-of-requires
 grid-of-requires c κs =
     let a = rules (c .before) in
-    let z = c .read-sizes .ensures in
-    ((omega (arith, a .outputLow, ap (λ (z : Sizes). z .m) z), omega (arith, a .outputHigh, ap (λ (z : Sizes). z .m) z)),
-    omega (arith, a .inputsHigh, ap (λ (z : Sizes). z .d) z))
+    let z = c .read-sizes .ensures in (
+      (omega (arith, a .outputLow, ap (λ (z : Sizes). z .m) z), omega (arith, a .outputHigh, ap (λ (z : Sizes). z .m) z)),
+      omega (arith, a .inputsHigh, ap (λ (z : Sizes). z .d) z),
+    )
 
 -- src/lib.rt:88:32
 array-read-t22 : tie.Need-array-read-t22

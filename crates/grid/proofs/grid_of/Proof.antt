@@ -38,17 +38,22 @@ module _ (m d : ℕ) (widths axes : List ℕ) (size i : ℕ) (f : Filled m d wid
     where
       l' : i + 1 ≤ d
       l' = omega arith
+
       used : i < length widths
       used = omega (arith, f .known)
+
       front : length (map (axis m) (take i widths)) ≡ i
       front = rw (length-map, length-take-le i widths (omega (arith, f .known)))
+
       left : 8 - i ≡ suc (8 - (i + 1))
       left = omega arith
+
       placed : set axes i u ≡ map (axis m) (take (i + 1) widths) ++ replicate (8 - (i + 1)) 0
       placed =
           rw (f .filled, e)
           (set-front (map (axis m) (take i widths)) (replicate (8 - i) 0) i (axis m (getD widths i 0)) front (rw length-replicate (omega arith))
           ∙ ap₂ _++_ (sym (map-take (axis m) widths i used)) (ap (λ n. drop 1 (replicate n 0)) left))
+
       product : size * u ≡ Places.size (map (axis m) (take (i + 1) widths))
       product = rw (f .sized, e, map-take (axis m) widths i used) (sym (size-snoc (map (axis m) (take i widths)) (axis m (getD widths i 0))))
 

@@ -6,13 +6,13 @@ use crate::grid;
 use crate::sizes::{INPUTS, sound_m};
 use crate::value;
 
-const ACCEPTED: Refusal = Refusal {
+pub(crate) const ACCEPTED: Refusal = Refusal {
     number: 0,
     file: 0,
     step: 0,
 };
 
-fn words(refusal: Refusal) -> [u64; 3] {
+pub(crate) fn words(refusal: Refusal) -> [u64; 3] {
     [refusal.number, refusal.file, refusal.step]
 }
 

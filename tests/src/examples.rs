@@ -45,7 +45,7 @@ fn block(outputs: [u64; 8]) -> Vec<(Vec<u64>, u64)> {
 }
 
 /// 4x² + 3x of examples IV.1 and IV.2, at any argument.
-fn quadratic(at: Expression) -> Expression {
+pub(crate) fn quadratic(at: Expression) -> Expression {
     4 * at.clone().power(2) + 3 * at
 }
 
@@ -65,7 +65,7 @@ fn quintic() -> Expression {
 }
 
 /// F of examples V.2, V.6 and V.7, reduced.
-fn reduced() -> Expression {
+pub(crate) fn reduced() -> Expression {
     3 * x(2).power(2) + 4 * x(1) * x(2)
 }
 

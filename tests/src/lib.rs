@@ -11,13 +11,19 @@
 //! | `value` | exact values of the steps; the output |
 //! | `bound` | L(m) |
 //! | `grid` | axes, places, vectors, dictionary order |
+//! | `newton` | binomials, forward differences, sums |
 //! | `compare` | two outputs compared over a list of vectors, plainly |
 //! | `calls` | the answers of the C functions, in words |
+//! | `tables` | the same of the functions on tables |
+//! | `sessions` | the same of opening and continuing |
+//! | `report` | the lines of the comparing program |
 //! | `expression` | polynomials as expressions, and files built from them |
 //! | `pairs` | the pairs of document 01 |
 //! | `examples` | the worked examples of document 002 |
+//! | `newton_examples` | the difference tables of both documents |
 //! | `random` | a generator of numbers with a fixed seed |
 //! | `samples` | random files, sound and damaged |
+//! | `twins` | random pairs of datapaths with the same sizes |
 
 pub mod big;
 pub mod bound;
@@ -27,8 +33,14 @@ pub mod examples;
 pub mod expression;
 pub mod file;
 pub mod grid;
+pub mod newton;
+pub mod newton_examples;
 pub mod pairs;
 pub mod random;
+pub mod report;
 pub mod samples;
+pub mod sessions;
 pub mod sizes;
+pub mod tables;
+pub mod twins;
 pub mod value;

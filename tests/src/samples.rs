@@ -42,14 +42,18 @@ pub fn sizes(random: &mut Random, m: u64) -> Sizes {
     Sizes { m, widths }
 }
 
-/// A sound file of `count` steps.
-pub fn file(random: &mut Random, sizes: &Sizes, count: usize, shape: Shape) -> Vec<u8> {
+/// A sound datapath of `count` steps.
+pub fn path(random: &mut Random, sizes: &Sizes, count: usize, shape: Shape) -> Datapath {
     let step = |index| step(random, sizes, index, shape);
-    let path = Datapath {
+    Datapath {
         sizes: sizes.clone(),
         steps: (0..count).map(step).collect(),
-    };
-    write(&path)
+    }
+}
+
+/// The file of a sound datapath of `count` steps.
+pub fn file(random: &mut Random, sizes: &Sizes, count: usize, shape: Shape) -> Vec<u8> {
+    write(&path(random, sizes, count, shape))
 }
 
 /// Shapes other than `Spread` begin with so many inputs and constants.

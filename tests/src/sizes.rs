@@ -15,6 +15,31 @@ impl Sizes {
         self.widths.len()
     }
 
+    /// m, d and the eight word lengths.
+    pub fn numbers(&self) -> [u64; 2 + INPUTS] {
+        let mut numbers = [0; 2 + INPUTS];
+        numbers[0] = self.m;
+        numbers[1] = self.d() as u64;
+        numbers[2..2 + self.d()].copy_from_slice(&self.widths);
+        numbers
+    }
+
+    /// Sizes given as numbers, or the condition that refuses them: 2, 3 or 5.
+    pub fn from_numbers(numbers: &[u64; 2 + INPUTS]) -> Result<Sizes, u64> {
+        let [m, d, widths @ ..] = numbers;
+        if !sound_m(*m) {
+            return Err(2);
+        }
+        if !sound_d(*d) {
+            return Err(3);
+        }
+        if !sound_widths(*d, widths) {
+            return Err(5);
+        }
+        let widths = widths[..*d as usize].to_vec();
+        Ok(Sizes { m: *m, widths })
+    }
+
     /// The vector has d entries, each below 2^n of its input (the contrary of 14).
     pub fn full_width(&self, vector: &[u64]) -> bool {
         let in_range = |(&x, &n): (&u64, &u64)| u128::from(x) < 1 << n;

@@ -8,7 +8,7 @@ use std::fmt::Debug;
 pub type Outcome<T = ()> = Result<T, String>;
 
 pub struct Bench {
-    product: Product,
+    pub(crate) product: Product,
     comparisons: u64,
 }
 
@@ -119,7 +119,7 @@ impl Bench {
 }
 
 /// Index and values at the first place where two lists of one length differ.
-fn first_difference(found: &[u64], expected: &[u64]) -> Option<(usize, u64, u64)> {
+pub fn first_difference(found: &[u64], expected: &[u64]) -> Option<(usize, u64, u64)> {
     assert_eq!(found.len(), expected.len());
     let both = found.iter().zip(expected).enumerate();
     both.map(|(index, (&found, &expected))| (index, found, expected))
@@ -127,7 +127,7 @@ fn first_difference(found: &[u64], expected: &[u64]) -> Option<(usize, u64, u64)
 }
 
 /// A call on a file, with the file's first bytes.
-fn named(call: &str, file: &[u8]) -> String {
+pub fn named(call: &str, file: &[u8]) -> String {
     const SHOWN: usize = 96;
     let shown = file.iter().take(SHOWN).map(|byte| format!("{byte:02x}"));
     let rest = if file.len() > SHOWN { ".." } else { "" };

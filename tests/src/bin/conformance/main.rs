@@ -9,31 +9,41 @@
 //! | `product` | the C functions, every call with its guards |
 //! | `bench` | one call of the product compared with the reference |
 //! | `refusals` | each refusal at the first and at the last place where it can occur |
+//! | `faults` | a sound file and the faults that it can have |
 //! | `precedence` | which refusal comes first where several conditions hold |
 //! | `damage` | files cut, lengthened, and changed byte by byte |
 //! | `soak` | random files |
 //! | `grids` | bounds and grids of all sizes |
 //! | `replay` | the pairs of document 01 and the examples of document 002 |
+//! | `tables` | difference tables and sums; only with the feature of this name |
+//! | `sessions` | opening and continuing; only with the feature of this name |
+//! | `program` | the comparing program; only where CORKBINGO_COMPARE names it |
 
 mod bench;
 mod damage;
+mod faults;
 mod grids;
 mod lent;
 mod precedence;
 mod product;
+mod program;
 mod refusals;
 mod replay;
+#[cfg(feature = "sessions")]
+mod sessions;
 mod soak;
+#[cfg(feature = "tables")]
+mod tables;
 
 use bench::{Bench, Outcome};
 use std::panic::{self, AssertUnwindSafe};
 use std::process::ExitCode;
 use std::sync::Mutex;
 
-type Group = fn(&mut Bench) -> Outcome;
+/// A group of tests: its name, its seed if it draws numbers, and what it runs.
+type Group = (&'static str, Option<u64>, fn(&mut Bench) -> Outcome);
 
-/// The groups, with the seeds of those that draw numbers.
-const GROUPS: [(&str, Option<u64>, Group); 16] = [
+const FILES: [Group; 16] = [
     ("head refused", None, refusals::head),
     ("lengths refused", None, refusals::lengths),
     ("operations refused", None, refusals::operations),
@@ -41,7 +51,7 @@ const GROUPS: [(&str, Option<u64>, Group); 16] = [
     ("limits accepted", None, refusals::limits),
     ("scratch refused", None, refusals::scratch),
     ("vectors refused", None, refusals::vectors),
-    ("precedence of refusals", None, precedence::subsets),
+    ("precedence of refusals", None, precedence::evaluate),
     ("truncated and lengthened files", None, damage::lengths),
     ("damaged bytes", None, damage::bytes),
     ("bounds", None, grids::bounds),
@@ -56,6 +66,16 @@ const GROUPS: [(&str, Option<u64>, Group); 16] = [
     ("random files", Some(soak::SEED), soak::files),
 ];
 
+fn groups() -> Vec<Group> {
+    let mut list = Vec::from(FILES);
+    #[cfg(feature = "tables")]
+    list.extend(tables::GROUPS);
+    #[cfg(feature = "sessions")]
+    list.extend(sessions::GROUPS);
+    list.extend(program::groups());
+    list
+}
+
 /// The message and the place of the last panic.
 static PANIC: Mutex<String> = Mutex::new(String::new());
 
@@ -63,8 +83,10 @@ fn main() -> ExitCode {
     panic::set_hook(Box::new(|info| {
         *PANIC.lock().unwrap() = info.to_string().replace('\n', " ");
     }));
+    let groups = groups();
+    let count = groups.len();
     let mut failed = 0;
-    for (name, seed, group) in GROUPS {
+    for (name, seed, group) in groups {
         let name = match seed {
             Some(seed) => format!("{name} (seed {seed:#x})"),
             None => String::from(name),
@@ -77,12 +99,12 @@ fn main() -> ExitCode {
             }
         }
     }
-    println!("{} passed, {failed} failed", GROUPS.len() - failed);
+    println!("{} passed, {failed} failed", count - failed);
     ExitCode::from(u8::from(failed > 0))
 }
 
 /// Runs a group on a bench of its own. A panic is a failure, and so is a group without comparisons.
-fn run(group: Group) -> Outcome<u64> {
+fn run(group: fn(&mut Bench) -> Outcome) -> Outcome<u64> {
     let mut bench = Bench::new();
     match panic::catch_unwind(AssertUnwindSafe(|| group(&mut bench))) {
         Err(_) => Err(PANIC.lock().unwrap().clone()),

@@ -32,13 +32,20 @@ unsafe extern "C" {
 
 type FileFunction = unsafe extern "C" fn(*const u8, usize, *mut u64, usize) -> u32;
 
-/// The longest file and the longest vector, in bytes, that a test lends.
+/// The longest file, vector and table, in bytes, that a test lends.
 const LONGEST_FILE: usize = 16_384;
 const LONGEST_VECTOR: usize = 4_096;
+#[cfg(feature = "tables")]
+const LONGEST_TABLE: usize = 3_000_000;
 
+/// The memory of the slices that are only read.
 pub struct Product {
-    file: Fence,
-    vector: Fence,
+    pub(crate) file: Fence,
+    pub(crate) vector: Fence,
+    #[cfg(feature = "tables")]
+    pub(crate) cells: Fence,
+    #[cfg(feature = "sessions")]
+    pub(crate) second: Fence,
 }
 
 impl Product {
@@ -46,6 +53,10 @@ impl Product {
         Product {
             file: Fence::new(LONGEST_FILE),
             vector: Fence::new(LONGEST_VECTOR),
+            #[cfg(feature = "tables")]
+            cells: Fence::new(LONGEST_TABLE),
+            #[cfg(feature = "sessions")]
+            second: Fence::new(LONGEST_FILE),
         }
     }
 
@@ -123,18 +134,19 @@ impl Product {
         Ok(answer)
     }
 
-    fn file_unchanged(&self, name: &str, file: &[u8]) -> Outcome {
+    pub(crate) fn file_unchanged(&self, name: &str, file: &[u8]) -> Outcome {
         ask(self.file.holds(file), || {
             format!("{name}: wrote to the file")
         })
     }
 }
 
-fn ask(holds: bool, what: impl FnOnce() -> String) -> Outcome {
+pub fn ask(holds: bool, what: impl FnOnce() -> String) -> Outcome {
     if holds { Ok(()) } else { Err(what()) }
 }
 
-fn wrong_lengths(
+/// Calls with answer slices of wrong lengths.
+pub fn wrong_lengths(
     name: &str,
     length: usize,
     call: &mut impl FnMut(*mut u64, usize) -> u32,
@@ -152,15 +164,33 @@ fn wrong_lengths(
     Ok(())
 }
 
-fn right_length<const LENGTH: usize>(
+/// Calls with an answer slice of the right length.
+pub fn right_length<const LENGTH: usize>(
     name: &str,
     call: &mut impl FnMut(*mut u64, usize) -> u32,
 ) -> Outcome<[u64; LENGTH]> {
+    let answer = perhaps(name, call)?;
+    answer.ok_or_else(|| format!("{name}: returned 0 for an answer of {LENGTH} words"))
+}
+
+/// The same, where another slice may have the wrong layout: no answer where the call returns 0, and
+/// then it has touched none.
+pub fn perhaps<const LENGTH: usize>(
+    name: &str,
+    call: &mut impl FnMut(*mut u64, usize) -> u32,
+) -> Outcome<Option<[u64; LENGTH]>> {
     let mut out = Lent::blank(LENGTH);
-    let returned = call(out.pointer(), LENGTH);
-    ask(returned == 1, || {
-        format!("{name}: returned {returned} for an answer of {LENGTH} words")
-    })?;
-    ask(out.guarded(), || format!("{name}: wrote beside the answer"))?;
-    Ok(std::array::from_fn(|index| out.content()[index]))
+    match call(out.pointer(), LENGTH) {
+        0 => {
+            ask(out.blank_still(), || {
+                format!("{name}: returned 0, yet the answer was touched")
+            })?;
+            Ok(None)
+        }
+        1 => {
+            ask(out.guarded(), || format!("{name}: wrote beside the answer"))?;
+            Ok(Some(std::array::from_fn(|index| out.content()[index])))
+        }
+        returned => Err(format!("{name}: returned {returned}")),
+    }
 }

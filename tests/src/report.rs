@@ -1,0 +1,61 @@
+//! The lines of the comparing program.
+
+use crate::file::read;
+use crate::grid::{axes, size};
+use crate::sessions::{ANSWER, DIFFERS, KIND, REFUSED, RUN, SPENT, continued, opened};
+
+/// The budget of each continue call.
+pub const BUDGET: u64 = 1_000_000;
+
+fn joined(numbers: &[u64]) -> String {
+    let texts: Vec<String> = numbers.iter().map(u64::to_string).collect();
+    texts.join(" ")
+}
+
+/// What the comparing program prints for two files.
+pub fn report(files: [&[u8]; 2]) -> String {
+    let opening = opened(files);
+    if opening.answer[0] != 0 {
+        return format!("refused {}\n", joined(&opening.answer));
+    }
+    let sizes = read(files[0], 1).expect("opened").sizes;
+    let axes = axes(&sizes);
+    let scratch = vec![0; files[0].len().max(files[1].len()) / 9];
+    let mut session = opening.session;
+    let mut run = 0;
+    let answer = loop {
+        let call = continued(files, &session, BUDGET, &scratch).expect("an opened session");
+        session = call.session;
+        run += call.answer[RUN];
+        match call.answer[KIND] {
+            REFUSED => unreachable!("an open session of these files"),
+            SPENT => continue,
+            _ => break call.answer,
+        }
+    };
+    let verdict = match answer[KIND] {
+        DIFFERS => {
+            let vector = joined(&answer[RUN + 1..][..sizes.d()]);
+            format!("differ {vector} : {}", joined(&answer[ANSWER - 2..]))
+        }
+        _ => String::from("equivalent"),
+    };
+    let grid = format!("grid {} = {}", joined(&axes), size(&axes));
+    format!("{grid}\n{verdict}\nrun {run}\n")
+}
+
+#[cfg(test)]
+mod tests {
+    use super::*;
+    use crate::pairs::{SAMPLE_A, SAMPLE_B, pairs};
+
+    #[test]
+    fn the_lines_of_document_01() {
+        let lines = "grid 2 4 = 8\ndiffer 1 1 : 1 0\nrun 6\n";
+        assert_eq!(report([&SAMPLE_A, &SAMPLE_B]), lines);
+        assert_eq!(report([&SAMPLE_A, &[]]), "refused 1 2 0\n");
+        let first = &pairs()[0].files;
+        let lines = "grid 10 = 10\nequivalent\nrun 10\n";
+        assert_eq!(report([&first[0], &first[1]]), lines);
+    }
+}

@@ -1,0 +1,226 @@
+//! Random pairs of datapaths with the same sizes: equivalent by construction, first differing at a
+//! chosen place, or whatever a random change makes of them.
+
+use crate::file::{Datapath, Step};
+use crate::grid::{axes, size};
+use crate::random::Random;
+use crate::samples::{self, Shape, top};
+use crate::sizes::Sizes;
+
+/// What the second datapath has to do with the first.
+#[derive(Clone, Copy, Debug, PartialEq, Eq, PartialOrd, Ord)]
+pub enum Kind {
+    /// The same steps.
+    Same,
+    /// Each step computed in another way, with dead steps between.
+    Rewritten,
+    /// A multiple of a falling factorial that vanishes is added.
+    Vanishing,
+    /// Products of falling factorials are added that first count at a chosen vector.
+    Late,
+    /// One step is changed.
+    Changed,
+    /// Another random datapath.
+    Other,
+}
+
+pub const KINDS: [Kind; 6] = [
+    Kind::Same,
+    Kind::Rewritten,
+    Kind::Vanishing,
+    Kind::Late,
+    Kind::Changed,
+    Kind::Other,
+];
+
+impl Kind {
+    pub fn equivalent(self) -> bool {
+        matches!(self, Kind::Same | Kind::Rewritten | Kind::Vanishing)
+    }
+}
+
+/// Sizes with this m and a grid of at most `most` vectors, at least 66.
+pub fn small_sizes(random: &mut Random, m: u64, most: u64) -> Sizes {
+    let mut sizes = samples::sizes(random, m);
+    while size(&axes(&sizes)) > most {
+        let input = random.index(sizes.d());
+        if sizes.d() > 1 && random.chance(40) {
+            sizes.widths.remove(input);
+        } else {
+            sizes.widths[input] = random.between(1, 3);
+        }
+    }
+    sizes
+}
+
+/// A datapath of few steps.
+pub fn path(random: &mut Random, sizes: &Sizes) -> Datapath {
+    let shape = random.pick(&[Shape::Spread, Shape::Horner, Shape::Sums]);
+    let count = random.between(1, 16) as usize;
+    samples::path(random, sizes, count, shape)
+}
+
+/// A datapath of the given kind beside `path`.
+pub fn twin(random: &mut Random, path: &Datapath, kind: Kind) -> Datapath {
+    let sizes = &path.sizes;
+    match kind {
+        Kind::Same => path.clone(),
+        Kind::Rewritten => rewritten(random, path),
+        Kind::Vanishing => vanishing(random, path),
+        Kind::Late => {
+            let vector = countable(random, sizes);
+            late(path, &vector)
+        }
+        Kind::Changed => changed(random, path),
+        Kind::Other => self::path(random, sizes),
+    }
+}
+
+fn push(steps: &mut Vec<Step>, step: Step) -> usize {
+    steps.push(step);
+    steps.len() - 1
+}
+
+fn rewritten(random: &mut Random, path: &Datapath) -> Datapath {
+    let m = path.sizes.m;
+    let mut steps = Vec::new();
+    let mut places: Vec<usize> = Vec::new();
+    for &step in &path.steps {
+        if random.chance(20) {
+            push(&mut steps, Step::Constant(random.word() & top(m)));
+        }
+        let other = random.chance(50);
+        let new = match step {
+            Step::Input(_) => step,
+            Step::Constant(number) if other => {
+                let part = random.word() & top(m);
+                let left = push(&mut steps, Step::Constant(part));
+                let rest = number.wrapping_sub(part) & top(m);
+                let right = push(&mut steps, Step::Constant(rest));
+                Step::Add(left, right)
+            }
+            Step::Constant(_) => step,
+            Step::Add(left, right) => Step::Add(places[right], places[left]),
+            Step::Subtract(left, right) if other => {
+                let minus = push(&mut steps, Step::Constant(top(m)));
+                let negative = push(&mut steps, Step::Multiply(minus, places[right]));
+                Step::Add(places[left], negative)
+            }
+            Step::Subtract(left, right) => Step::Subtract(places[left], places[right]),
+            Step::Multiply(left, right) => Step::Multiply(places[right], places[left]),
+        };
+        places.push(push(&mut steps, new));
+    }
+    let sizes = path.sizes.clone();
+    Datapath { sizes, steps }
+}
+
+/// Appends the falling factorial of degree k, at least 1, of an input, and gives its step.
+fn falling(steps: &mut Vec<Step>, m: u64, input: usize, k: u64) -> usize {
+    let base = push(steps, Step::Input(input));
+    (1..k).fold(base, |product, j| {
+        let constant = push(steps, Step::Constant(j & top(m)));
+        let factor = push(steps, Step::Subtract(base, constant));
+        push(steps, Step::Multiply(product, factor))
+    })
+}
+
+/// Adds a step times the falling factorial of degree u of an input with the axis u. It is 0 at
+/// every full-width vector: exactly where u is 2^n, and modulo 2^m where u is L(m).
+fn vanishing(random: &mut Random, path: &Datapath) -> Datapath {
+    let axes = axes(&path.sizes);
+    let mut steps = path.steps.clone();
+    let last = steps.len() - 1;
+    let input = random.index(axes.len());
+    let zero = falling(&mut steps, path.sizes.m, input, axes[input]);
+    let any = random.index(path.steps.len());
+    let multiple = push(&mut steps, Step::Multiply(zero, any));
+    push(&mut steps, Step::Add(last, multiple));
+    let sizes = path.sizes.clone();
+    Datapath { sizes, steps }
+}
+
+/// The power of two in k!.
+fn power_in_factorial(k: u64) -> u64 {
+    k - u64::from(k.count_ones())
+}
+
+/// Whether the product of the falling factorials of these degrees is not 0 modulo 2^m at the
+/// vector of the degrees itself, where it is the product of their factorials.
+fn counts(m: u64, vector: &[u64]) -> bool {
+    vector.iter().copied().map(power_in_factorial).sum::<u64>() < m
+}
+
+/// A grid vector that can be made the first difference, late in the grid if m allows.
+pub fn countable(random: &mut Random, sizes: &Sizes) -> Vec<u64> {
+    let axes = axes(sizes);
+    let mut vector: Vec<u64> = axes.iter().map(|&axis| random.below(axis)).collect();
+    while !counts(sizes.m, &vector) {
+        let input = random.index(vector.len());
+        vector[input] /= 2;
+    }
+    vector
+}
+
+/// Adds the product of the falling factorials of the degrees in `vector`. It is 0 unless every
+/// entry reaches its degree, so the first difference is at `vector` itself, where it counts.
+pub fn late(path: &Datapath, vector: &[u64]) -> Datapath {
+    let m = path.sizes.m;
+    assert!(counts(m, vector), "no difference at {vector:?}");
+    let mut steps = path.steps.clone();
+    let last = steps.len() - 1;
+    let mut product = push(&mut steps, Step::Constant(1));
+    for (input, &k) in vector.iter().enumerate().filter(|(_, k)| **k > 0) {
+        let factor = falling(&mut steps, m, input, k);
+        product = push(&mut steps, Step::Multiply(product, factor));
+    }
+    push(&mut steps, Step::Add(last, product));
+    let sizes = path.sizes.clone();
+    Datapath { sizes, steps }
+}
+
+fn changed(random: &mut Random, path: &Datapath) -> Datapath {
+    let mut path = path.clone();
+    let index = random.index(path.steps.len());
+    path.steps[index] = match path.steps[index] {
+        Step::Input(_) => Step::Input(random.index(path.sizes.d())),
+        Step::Constant(number) => {
+            let bit = 1 << random.below(path.sizes.m);
+            Step::Constant(number ^ bit)
+        }
+        Step::Add(left, right) => Step::Subtract(left, right),
+        Step::Subtract(left, right) => Step::Subtract(right, left),
+        Step::Multiply(left, _) => Step::Multiply(left, random.index(index)),
+    };
+    path
+}
+
+#[cfg(test)]
+mod tests {
+    use super::*;
+    use crate::compare::{Verdict, compare_paths};
+    use crate::file::{read, write};
+
+    #[test]
+    fn kinds_keep_their_promises() {
+        let mut random = Random::new(0x7713);
+        for round in 0..300 {
+            let sizes = small_sizes(&mut random, 1 + round % 64, 100);
+            let first = path(&mut random, &sizes);
+            for kind in KINDS {
+                let second = twin(&mut random, &first, kind);
+                assert_eq!(read(&write(&second), 1).as_ref(), Ok(&second), "{kind:?}");
+                let found = compare_paths(&axes(&sizes), &first, &second);
+                if kind.equivalent() {
+                    assert_eq!(found.verdict, Verdict::Equivalent, "{kind:?}");
+                }
+            }
+            let vector = countable(&mut random, &sizes);
+            let found = compare_paths(&axes(&sizes), &first, &late(&first, &vector));
+            let Verdict::Differs { vector: shown, .. } = found.verdict else {
+                panic!("no difference at {vector:?}")
+            };
+            assert_eq!(shown, vector);
+        }
+    }
+}

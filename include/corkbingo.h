@@ -1,30 +1,47 @@
 /* Corkbingo: the C interface of the datapath equivalence checker.
  *
  * A byte slice is a pointer and a length. A word slice is a pointer to uint64_t and a length in
- * words. Slices that a call writes overlap no other slice of the call. Files, vectors and numbers
- * may hold anything; no call reads or writes outside the slices it is lent.
+ * words. Slices that a call writes overlap no other slice of the call. Files, vectors, tables and
+ * numbers may hold anything; no call reads or writes outside the slices it is lent.
  *
- * Every answer goes into a word slice of a fixed length, which the caller lends. A function
- * returns 1 where that length is right, and the answer is then written whole, a refusal too. It
- * returns 0, and has touched nothing, where the length is another.
+ * Every answer goes into a word slice of a fixed length, which the caller lends. Sizes and
+ * sessions are word slices of fixed lengths too:
+ *
+ *   sizes, 10 words      m, d, n1 to n8 (0 past the d-th); each at most 255
+ *   session, 12 words    m, d, n1 to n8, each at most 255; position; mark (0 open, 1 equal,
+ *                        2 differ)
+ *
+ * A function returns 1 where these lengths are right and the words that it reads of sizes or of a
+ * session fit their fields. The answer is then written whole, a refusal too. Otherwise it returns
+ * 0 and has touched nothing.
  *
  * The first three words of an answer are the refusal: number, file, step. The number is 0 where
  * the call is accepted; file and step are then 0 too. Of a refused call all other words of the
- * answer are 0, and every other lent entry is untouched. The numbers:
+ * answer are 0, and every other lent entry is untouched, but for the session of a refused opening.
+ * The numbers:
  *
- *    1  the file is under 12 bytes
+ *    1  a file is under 12 bytes
  *    2  m is not 1 to 64
  *    3  d is not 1 to 8
  *    4  N is not 1 to 1,024
- *    5  a word-length byte breaks its rule
+ *    5  a word length breaks its rule
  *    6  the length is not 12 + 9N
  *    7  an operation byte is not 1 to 5
  *    8  an argument breaks its rule
- *   12  the scratch slice has fewer than N entries
+ *    9  the files differ in m, d or a word length
+ *   10  G is 2^64 or more
+ *   11  the budget is 0
+ *   12  the scratch slice has fewer entries than the file has steps, or the longer of two files
+ *   13  a slice for a table or for outputs has fewer than G entries, or one of the first G that are
+ *       given to be summed or differenced is 2^m or more
  *   14  the vector is not d long, or an entry is 2^n or more for its input's word length n
+ *  101  the session's m, d or word lengths are not the files'
+ *  102  the position does not fit the mark: open needs below G, equal needs G, differ 1 to G
+ *  103  the mark is not open
  *
- * Where several hold, the lowest number is given; but 7 and 8 are judged step by step, at each
- * step 7 first. In 1 to 8 the file is 1 where a file is read, and 0 where m is given as a number.
+ * Where several hold, the first in this order is given: 11; file 1 by 1 to 6, then step by step 7
+ * before 8; file 2 likewise; 9; 10; 12; 13; 14; 101; 102; 103. A call skips what it has no part in.
+ * In 1 to 8 the file is 1 or 2, a lone file being 1, and 0 where m or sizes are given as numbers.
  * In 7 and 8 the step is the offending one, counted from 0. Otherwise file and step are 0.
  */
 #ifndef CORKBINGO_H
@@ -36,12 +53,32 @@
 /* The version of this interface: it grows with every change of a function or a layout. */
 #define CORKBINGO_VERSION 1
 
+/* The lengths of sizes and sessions, in words. */
+#define CORKBINGO_SIZES_WORDS 10
+#define CORKBINGO_SESSION_WORDS 12
+
 /* The lengths of the answers, in words. */
 #define CORKBINGO_CHECK_WORDS 3
 #define CORKBINGO_OPERATIONS_WORDS 2
 #define CORKBINGO_BOUND_WORDS 4
 #define CORKBINGO_GRID_WORDS 12
 #define CORKBINGO_EVALUATE_WORDS 4
+#define CORKBINGO_TABLE_WORDS 3
+#define CORKBINGO_DIFFERENCE_WORDS 3
+#define CORKBINGO_SUM_WORDS 3
+#define CORKBINGO_OPEN_WORDS 3
+#define CORKBINGO_CONTINUE_WORDS 15
+
+/* The mark of a session. */
+#define CORKBINGO_OPEN 0
+#define CORKBINGO_EQUAL 1
+#define CORKBINGO_DIFFER 2
+
+/* The kind of an answer of corkbingo_continue. */
+#define CORKBINGO_REFUSED 0
+#define CORKBINGO_SPENT 1
+#define CORKBINGO_EQUIVALENT 2
+#define CORKBINGO_DIFFERS 3
 
 #ifdef __cplusplus
 extern "C" {
@@ -69,6 +106,58 @@ uint32_t corkbingo_evaluate(const uint8_t *file, size_t file_len,
                             const uint64_t *vector, size_t vector_len,
                             uint64_t *scratch, size_t scratch_len,
                             uint64_t *out, size_t out_len);
+
+/* Makes the difference table of a file. Answer, 3 words: the refusal. The first G entries of the
+ * table slice get the cells: in dictionary order, the first input weighing most, cell k is the
+ * k-fold forward difference of the outputs at the zero vector, modulo 2^m, for every ki below ui.
+ * The others stay untouched. The scratch slice is as after corkbingo_evaluate. */
+uint32_t corkbingo_table(const uint8_t *file, size_t file_len,
+                         uint64_t *scratch, size_t scratch_len,
+                         uint64_t *table, size_t table_len,
+                         uint64_t *out, size_t out_len);
+
+/* Makes the difference table of outputs at all grid vectors in dictionary order. Answer, 3 words:
+ * the refusal (by 2, 3, 5, 10 or 13). Reads the first G outputs and writes the first G entries of
+ * the table slice. */
+uint32_t corkbingo_difference(const uint64_t *sizes, size_t sizes_len,
+                              const uint64_t *outputs, size_t outputs_len,
+                              uint64_t *table, size_t table_len,
+                              uint64_t *out, size_t out_len);
+
+/* Sums a difference table back: the output at x is the sum over all cells k of the cell times the
+ * binomials (xi choose ki), modulo 2^m. Answer, 3 words: the refusal (by 2, 3, 5, 10 or 13). Reads
+ * the first G cells and writes the first G entries of the output slice. */
+uint32_t corkbingo_sum(const uint64_t *sizes, size_t sizes_len,
+                       const uint64_t *table, size_t table_len,
+                       uint64_t *outputs, size_t outputs_len,
+                       uint64_t *out, size_t out_len);
+
+/* Opens a session of two files. Answer, 3 words: the refusal. Writes the session: the files' sizes,
+ * position 0, open; of a refused opening all words are 0. What the slice held is not read. */
+uint32_t corkbingo_open(const uint8_t *file1, size_t file1_len,
+                        const uint8_t *file2, size_t file2_len,
+                        uint64_t *session, size_t session_len,
+                        uint64_t *out, size_t out_len);
+
+/* Compares the two files at up to `budget` grid vectors from the session's position on. Answer, 15
+ * words: the refusal; the kind; the count of vectors run; x1 to x8; the output of file 1; the
+ * output of file 2. By kind:
+ *
+ *   spent         none of these vectors differs, and more remain; the position grows by the budget
+ *   equivalent    none differs up to the end of the grid: the outputs are then equal at every
+ *                 full-width vector; the position becomes G, the mark equal
+ *   differs       the first that differs is shown (0 past the d-th) with both outputs; the position
+ *                 becomes its place plus 1, the mark differ
+ *
+ * The vectors run are the new position less the old. Vector and outputs are 0 but in differs. A
+ * refused call leaves the session as it was. After an accepted call the first entries of the
+ * scratch slice, as many as the longer file has steps, are 0 and the others untouched. */
+uint32_t corkbingo_continue(const uint8_t *file1, size_t file1_len,
+                            const uint8_t *file2, size_t file2_len,
+                            uint64_t *session, size_t session_len,
+                            uint64_t budget,
+                            uint64_t *scratch, size_t scratch_len,
+                            uint64_t *answer, size_t answer_len);
 
 #ifdef __cplusplus
 }

@@ -1,5 +1,6 @@
-/* Calls each function of the header once, on the sample file a.dp of document 01: x1 x2 with m 2
- * and word lengths 1 and 2. Prints `ok header: K comparisons`, or `FAILED header: what`, and ends
+/* Calls each function of the header, on the sample files of document 01: a.dp, x1 x2 with m 2 and
+ * word lengths 1 and 2, and b.dp, 0 with the same sizes. The functions on tables and on sessions
+ * are called where TABLES and SESSIONS are defined. Prints `ok header: K comparisons`, or `FAILED header: what`, and ends
  * with status 1 where something failed. */
 #include "corkbingo.h"
 
@@ -40,6 +41,90 @@ static void answer(const char *what, uint32_t returned, const uint64_t *found,
         same(what, index, found[index], expected[index]);
 }
 
+#ifdef TABLES
+static void tables(void)
+{
+    static const uint64_t sizes[CORKBINGO_SIZES_WORDS] = {2, 2, 1, 2};
+    static const uint64_t accepted[CORKBINGO_TABLE_WORDS] = {0, 0, 0};
+    static const uint64_t cells[9] = {0, 0, 0, 0, 0, 1, 0, 0, 7};
+    static const uint64_t outputs[9] = {0, 0, 0, 0, 0, 1, 2, 3, 7};
+    static const uint64_t cleared[4] = {0, 0, 0, 7};
+    uint64_t scratch[4] = {7, 7, 7, 7};
+    uint64_t made[9] = {7, 7, 7, 7, 7, 7, 7, 7, 7};
+    uint64_t summed[9] = {7, 7, 7, 7, 7, 7, 7, 7, 7};
+    uint64_t differenced[9] = {7, 7, 7, 7, 7, 7, 7, 7, 7};
+    uint64_t out[CORKBINGO_TABLE_WORDS];
+    uint32_t returned;
+
+    returned = corkbingo_table(sample, sizeof sample, scratch, 4, made, 9, out,
+                               CORKBINGO_TABLE_WORDS);
+    answer("table", returned, out, accepted, CORKBINGO_TABLE_WORDS);
+    answer("cells of table", returned, made, cells, 9);
+    answer("scratch of table", returned, scratch, cleared, 4);
+
+    returned = corkbingo_sum(sizes, CORKBINGO_SIZES_WORDS, made, 9, summed, 9, out,
+                             CORKBINGO_SUM_WORDS);
+    answer("sum", returned, out, accepted, CORKBINGO_SUM_WORDS);
+    answer("outputs of sum", returned, summed, outputs, 9);
+
+    returned = corkbingo_difference(sizes, CORKBINGO_SIZES_WORDS, summed, 9, differenced, 9, out,
+                                    CORKBINGO_DIFFERENCE_WORDS);
+    answer("difference", returned, out, accepted, CORKBINGO_DIFFERENCE_WORDS);
+    answer("cells of difference", returned, differenced, cells, 9);
+}
+#endif
+
+#ifdef SESSIONS
+static const uint8_t zero[21] = {
+    2, 2, 1, 0, 1, 2, 0, 0, 0, 0, 0, 0,
+    2,
+    0, 0, 0, 0, 0, 0, 0, 0,
+};
+
+static void sessions(void)
+{
+    static const uint64_t accepted[CORKBINGO_OPEN_WORDS] = {0, 0, 0};
+    static const uint64_t opened[CORKBINGO_SESSION_WORDS] = {2, 2, 1, 2};
+    static const uint64_t before[CORKBINGO_SESSION_WORDS] = {
+        2, 2, 1, 2, 0, 0, 0, 0, 0, 0, 5, CORKBINGO_OPEN};
+    static const uint64_t after[CORKBINGO_SESSION_WORDS] = {
+        2, 2, 1, 2, 0, 0, 0, 0, 0, 0, 6, CORKBINGO_DIFFER};
+    static const uint64_t spent[CORKBINGO_CONTINUE_WORDS] = {0, 0, 0, CORKBINGO_SPENT, 5};
+    static const uint64_t shown[CORKBINGO_CONTINUE_WORDS] = {
+        0, 0, 0, CORKBINGO_DIFFERS, 1, 1, 1, 0, 0, 0, 0, 0, 0, 1, 0};
+    static const uint64_t refused[CORKBINGO_CONTINUE_WORDS] = {103};
+    static const uint64_t cleared[4] = {0, 0, 0, 7};
+    uint64_t scratch[4] = {7, 7, 7, 7};
+    uint64_t session[CORKBINGO_SESSION_WORDS];
+    uint64_t out[CORKBINGO_CONTINUE_WORDS];
+    uint32_t returned;
+
+    returned = corkbingo_open(sample, sizeof sample, zero, sizeof zero, session,
+                              CORKBINGO_SESSION_WORDS, out, CORKBINGO_OPEN_WORDS);
+    answer("open", returned, out, accepted, CORKBINGO_OPEN_WORDS);
+    answer("session of open", returned, session, opened, CORKBINGO_SESSION_WORDS);
+
+    returned = corkbingo_continue(sample, sizeof sample, zero, sizeof zero, session,
+                                  CORKBINGO_SESSION_WORDS, 5, scratch, 4, out,
+                                  CORKBINGO_CONTINUE_WORDS);
+    answer("spent", returned, out, spent, CORKBINGO_CONTINUE_WORDS);
+    answer("session of spent", returned, session, before, CORKBINGO_SESSION_WORDS);
+    answer("scratch of spent", returned, scratch, cleared, 4);
+
+    returned = corkbingo_continue(sample, sizeof sample, zero, sizeof zero, session,
+                                  CORKBINGO_SESSION_WORDS, UINT64_MAX, scratch, 3, out,
+                                  CORKBINGO_CONTINUE_WORDS);
+    answer("differs", returned, out, shown, CORKBINGO_CONTINUE_WORDS);
+    answer("session of differs", returned, session, after, CORKBINGO_SESSION_WORDS);
+
+    returned = corkbingo_continue(sample, sizeof sample, zero, sizeof zero, session,
+                                  CORKBINGO_SESSION_WORDS, 1, scratch, 3, out,
+                                  CORKBINGO_CONTINUE_WORDS);
+    answer("refused", returned, out, refused, CORKBINGO_CONTINUE_WORDS);
+    answer("session of refused", returned, session, after, CORKBINGO_SESSION_WORDS);
+}
+#endif
+
 int main(void)
 {
     static const uint64_t checked[CORKBINGO_CHECK_WORDS] = {0, 0, 0};
@@ -69,6 +154,13 @@ int main(void)
                                   CORKBINGO_EVALUATE_WORDS);
     answer("evaluate", returned, out, output, CORKBINGO_EVALUATE_WORDS);
     answer("scratch of evaluate", returned, scratch, cleared, 4);
+
+#ifdef TABLES
+    tables();
+#endif
+#ifdef SESSIONS
+    sessions();
+#endif
 
     if (failures == 0)
         printf("ok header: %u comparisons\n", comparisons);

@@ -11,7 +11,7 @@ use crate::grid::{place_of, size, vectors};
 use std::sync::LazyLock;
 
 /// The most terms of closed forms that are worked out to confirm a whole table.
-pub const TERMS: u128 = 20_000;
+pub const TERMS: u128 = 4_000;
 
 /// Pascal's triangle, as far as the longest axis needs it: 66, the bound of m 64.
 static TRIANGLE: LazyLock<Vec<Vec<u128>>> = LazyLock::new(|| {
@@ -28,6 +28,11 @@ static TRIANGLE: LazyLock<Vec<Vec<u128>>> = LazyLock::new(|| {
 pub fn binomial(x: u64, k: u64) -> u128 {
     let row = &TRIANGLE[x as usize];
     row.get(k as usize).copied().unwrap_or(0)
+}
+
+/// n modulo 2^m: its last m binary digits.
+fn cut(m: u64, n: u128) -> u128 {
+    n & ((1 << m) - 1)
 }
 
 /// Replaces every line of the cells along one input.
@@ -68,8 +73,7 @@ pub fn exact_differences(axes: &[u64], values: Vec<Big>) -> Vec<Big> {
 
 /// The difference table of the values. Panics if formula (7) is worked out and disagrees.
 pub fn differences(m: u64, axes: &[u64], values: &[u64]) -> Vec<u64> {
-    let modulus = 1u128 << m;
-    let minus = |a: &u64, b: &u64| ((u128::from(*a) + modulus - u128::from(*b)) % modulus) as u64;
+    let minus = |a: &u64, b: &u64| cut(m, u128::from(*a) + (1 << m) - u128::from(*b)) as u64;
     let mut cells = values.to_vec();
     for input in (0..axes.len()).rev() {
         along(axes, input, &mut cells, |row| rounds(row, minus));
@@ -80,11 +84,10 @@ pub fn differences(m: u64, axes: &[u64], values: &[u64]) -> Vec<u64> {
 
 /// The values of a difference table. Panics if document 01's sum is worked out and disagrees.
 pub fn sums(m: u64, axes: &[u64], table: &[u64]) -> Vec<u64> {
-    let modulus = 1u128 << m;
     let line = |row: Vec<u64>| {
         let at = |x: usize| {
-            let term = |k: usize| binomial(x as u64, k as u64) % modulus * u128::from(row[k]);
-            (0..=x).fold(0, |total, k| (total + term(k) % modulus) % modulus) as u64
+            let term = |k: usize| cut(m, binomial(x as u64, k as u64)) * u128::from(row[k]);
+            (0..=x).fold(0, |total, k| cut(m, total + cut(m, term(k)))) as u64
         };
         (0..row.len()).map(at).collect()
     };
@@ -110,13 +113,12 @@ fn confirm(axes: &[u64], cells: &[u64], closed: impl Fn(&[u64]) -> u64) {
 
 /// The cell at k by formula (7), for each input.
 pub fn difference_at(m: u64, axes: &[u64], values: &[u64], k: &[u64]) -> u64 {
-    let modulus = 1u128 << m;
     weighted(m, axes, values, k, |k, j| {
-        let positive = binomial(k, j) % modulus;
+        let positive = cut(m, binomial(k, j));
         if (k - j) % 2 == 0 {
             positive
         } else {
-            modulus - positive
+            (1 << m) - positive
         }
     })
 }
@@ -135,14 +137,13 @@ fn weighted(
     top: &[u64],
     weight: impl Fn(u64, u64) -> u128,
 ) -> u64 {
-    let modulus = 1u128 << m;
     let bounds: Vec<u64> = top.iter().map(|entry| entry + 1).collect();
     let mut total = 0;
     for vector in vectors(&bounds) {
         let cell = u128::from(cells[place_of(axes, &vector) as usize]);
         let weights = top.iter().zip(&vector).map(|(&x, &k)| weight(x, k));
-        let term = weights.fold(cell, |term, weight| term * (weight % modulus) % modulus);
-        total = (total + term) % modulus;
+        let term = weights.fold(cell, |term, weight| cut(m, term * cut(m, weight)));
+        total = cut(m, total + term);
     }
     total as u64
 }

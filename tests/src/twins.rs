@@ -39,15 +39,19 @@ impl Kind {
     }
 }
 
-/// Sizes with this m and a grid of at most `most` vectors, at least 66.
+/// Sizes with this m and a grid of at most `most` vectors, at least 66: random ones, narrowed, and
+/// some with fewer inputs.
 pub fn small_sizes(random: &mut Random, m: u64, most: u64) -> Sizes {
     let mut sizes = samples::sizes(random, m);
+    let fewer = random.chance(40);
     while size(&axes(&sizes)) > most {
         let input = random.index(sizes.d());
-        if sizes.d() > 1 && random.chance(40) {
+        let narrow = sizes.widths.iter().all(|&n| n == 1);
+        if sizes.d() > 1 && (narrow || fewer && random.chance(30)) {
             sizes.widths.remove(input);
         } else {
-            sizes.widths[input] = random.between(1, 3);
+            let width = &mut sizes.widths[input];
+            *width = random.between(1, 3).min(*width);
         }
     }
     sizes
@@ -95,8 +99,8 @@ fn rewritten(random: &mut Random, path: &Datapath) -> Datapath {
             Step::Constant(number) if other => {
                 let part = random.word() & top(m);
                 let left = push(&mut steps, Step::Constant(part));
-                let rest = number.wrapping_sub(part) & top(m);
-                let right = push(&mut steps, Step::Constant(rest));
+                let rest = u128::from(number) + (1 << m) - u128::from(part);
+                let right = push(&mut steps, Step::Constant(rest as u64 & top(m)));
                 Step::Add(left, right)
             }
             Step::Constant(_) => step,

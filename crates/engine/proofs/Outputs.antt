@@ -1,21 +1,20 @@
 -- The output at a vector as the machine holds it is the output at the vector: a value reads the entries of a vector alone, and past its end
 -- these are 0, as the zeros are that fill it up. So the test of two outputs there is the test at the vector's place.
+-- Assumes nothing.
 use mathlib.Core.Path.{_≡_, refl, sym, _∙_, ap, ap₂}
-use mathlib.Core.Bool.{Bool, not}
+use mathlib.Core.Bool.{not}
 use mathlib.Core.List.{List, [], _∷_, _++_}
-use Prim.Native.Nat.{ℕ, zero, suc, _-_, _^_}
+use Prim.Native.Nat.{ℕ, zero, suc, _-_}
 use lib.Dec.{eqb}
-use lib.IntN.{pos}
 use lib.ListN.{length, getD, replicate}
 use Rattle.evaluate.specs.Evaluate.{outputOf}
 use Rattle.file.specs.File.{sizesOf}
 use Rattle.file.specs.Steps.{stepsOf}
 use Rattle.grid.specs.Grid.{axesOf}
-use Rattle.integers.specs.Modulo.{remainder}
 use Rattle.places.specs.Places.{vectorAt}
 use Rattle.sizes.specs.Sizes.{maxInputs}
 use Rattle.sizes.specs.declared.Sizes.{Sizes}
-use Rattle.steps.specs.Steps.{Step, exact, output}
+use Rattle.steps.specs.Steps.{exact, output}
 use Rattle.steps.proofs.Values.{values-entries}
 use Rattle.theorem.specs.Comparison.{differsAt}
 use Rattle.vectors.specs.Vectors.{held}
@@ -28,10 +27,9 @@ padded [] (suc n) (suc i) = padded [] n i
 padded (x ∷ v) n zero = refl
 padded (x ∷ v) n (suc i) = padded v n i
 
-output-held : (m : ℕ) (ts : List Step) (v : List ℕ) → output m ts (held v) ≡ output m ts v
-unfolding output exact
-output-held m ts v =
-    ap (λ vs. remainder (getD vs (length ts - 1) (pos 0)) (2 ^ m)) (values-entries ts (held v) v (length ts) (padded v (maxInputs - length v)))
+pub output-held : (s v : List ℕ) → outputOf s (held v) ≡ outputOf s v
+unfolding outputOf output exact
+output-held s v = rw (values-entries (stepsOf s) (held v) v (length (stepsOf s)) (padded v (maxInputs - length v)))
 
 pub test-held :
     (s₁ s₂ v : List ℕ) (p : ℕ) → sizesOf s₁ ≡ sizesOf s₂ → v ≡ held (vectorAt (axesOf (sizesOf s₁)) p) →
@@ -40,5 +38,5 @@ unfolding outputsDiffer differsAt outputOf
 test-held s₁ s₂ v p same e =
     let x = vectorAt (axesOf (sizesOf s₁)) p in
     ap₂ (λ a b. not (eqb a b))
-    (ap (output (sizesOf s₁ .m) (stepsOf s₁)) e ∙ output-held (sizesOf s₁ .m) (stepsOf s₁) x)
-    (ap₂ (λ (z : Sizes) w. output (z .m) (stepsOf s₂) w) (sym same) e ∙ output-held (sizesOf s₁ .m) (stepsOf s₂) x)
+    (ap (outputOf s₁) e ∙ output-held s₁ x)
+    (ap (outputOf s₂) e ∙ output-held s₂ x ∙ ap (λ (z : Sizes). output (z .m) (stepsOf s₂) x) (sym same))

@@ -1,8 +1,10 @@
 // The engine: two files compared place by place over the grid.
 use evaluate::output_at;
-use file::fields::{read_sizes, step_count};
+use file::fields::read_sizes;
+use file::fields::step_count;
 use grid::grid_of;
-use vectors::{next_vector, vector_at};
+use vectors::next_vector;
+use vectors::vector_at;
 ghost use mathlib.Core.Path.{_≡_};
 ghost use mathlib.Core.Bool.{not};
 ghost use Prim.Native.Nat.{_+_, _≤_, max};
@@ -16,7 +18,14 @@ ghost use Rattle.search.specs.Search.{first};
 ghost use Rattle.engine.specs.Engine.{outputsDiffer, largerCount, Comparable};
 
 // Whether the outputs of two accepted files, of n1 and n2 steps, differ at a vector. Past the larger of these no scratch entry is touched.
-fn differ_at(file1: &[u8], n1: usize, file2: &[u8], n2: usize, vector: &[u64], scratch: &mut [u64]) -> bool
+fn differ_at(
+    file1: &[u8],
+    n1: usize,
+    file2: &[u8],
+    n2: usize,
+    vector: &[u64],
+    scratch: &mut [u64],
+) -> bool
     requires { ⌜ Ready (now file1) n1 (now vector) (now scratch) ⌝ }
     requires { ⌜ Ready (now file2) n2 (now vector) (now scratch) ⌝ }
     ensures { λ r. ⌜ (r ≡ not (eqb (outputOf (now (file1 .entry)) (now (vector .entry))) (outputOf (now (file2 .entry)) (now (vector .entry))))) × (drop (max n1 n2) (now (scratch .exit)) ≡ drop (max n1 n2) (now (scratch .entry))) ⌝ }
@@ -28,7 +37,13 @@ fn differ_at(file1: &[u8], n1: usize, file2: &[u8], n2: usize, vector: &[u64], s
 
 // The first place among the `count` from `from` on at which the outputs of two comparable files differ, or the end of these where there is
 // none. The vector of the first place is decoded, and each later one is stepped to. Past the larger N no scratch entry is touched.
-pub fn first_difference(file1: &[u8], file2: &[u8], from: u64, count: u64, scratch: &mut [u64]) -> u64
+pub fn first_difference(
+    file1: &[u8],
+    file2: &[u8],
+    from: u64,
+    count: u64,
+    scratch: &mut [u64],
+) -> u64
     requires { ⌜ Comparable (now file1) (now file2) ⌝ }
     requires { ⌜ from + count ≤ gridSize (sizesOf (now file1)) ⌝ }
     requires { ⌜ largerCount (now file1) (now file2) ≤ length (now scratch) ⌝ }

@@ -1,1 +1,2 @@
+pub mod TableWords
 pub mod Words

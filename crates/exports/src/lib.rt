@@ -22,6 +22,8 @@ ghost use Rattle.exports.specs.Words.{
   evaluateScratch,
 };
 
+mod table_calls;
+
 // The words are copied into a slice of the same length.
 fn copy_words(out: &mut [u64], words: &[u64])
     requires { ⌜ length (now out) ≡ length (now words) ⌝ }

@@ -6,7 +6,7 @@ use Prim.Native.Nat.{ℕ, zero, suc, _+_, _-_, _<_, _≤_}
 use native.Mathlib.Numerals.{add-one}
 use native.Mathlib.Omega.{arith}
 use lib.ListN.{length, getD, take, drop, set, replicate, length-map}
-use lib.Seq.{append-snoc, drop-cons, set-at, take-suc, length-take-le}
+use lib.Seq.{append-snoc, drop-cons, drop-drop, set-at, take-suc, length-take-le}
 
 pub map-append {ℓ κ} : {A : Type ℓ} {B : Type κ} (f : A → B) (xs ys : List A) → map f (xs ++ ys) ≡ map f xs ++ map f ys
 map-append f [] ys = refl
@@ -32,3 +32,9 @@ set-front p (y ∷ ys) k a e h = set-at p y ys a k e ∙ sym (append-snoc p a ys
 -- the map of one entry more
 pub map-take : (f : ℕ → ℕ) (ws : List ℕ) (i : ℕ) → i < length ws → map f (take (i + 1) ws) ≡ map f (take i ws) ++ (f (getD ws i 0) ∷ [])
 map-take f ws i h = rw (add-one i, take-suc ws i 0) (map-append f (take i ws) (getD ws i 0 ∷ []))
+
+-- what two lists share past n they share past m
+pub drop-later : (xs ys : List ℕ) (n m : ℕ) → n ≤ m → drop n xs ≡ drop n ys → drop m xs ≡ drop m ys
+drop-later xs ys n m h e =
+    let q : n + (m - n) ≡ m = omega arith in
+    ap (λ k. drop k xs) (sym q) ∙ sym (drop-drop (m - n) n xs) ∙ ap (drop (m - n)) e ∙ drop-drop (m - n) n ys ∙ ap (λ k. drop k ys) q

@@ -1,3 +1,5 @@
+pub mod Cases
 pub mod Demand3
+pub mod Pair
 pub mod Step
 pub mod Verdict

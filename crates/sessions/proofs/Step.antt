@@ -14,6 +14,7 @@ use native.Mathlib.Omega.{arith}
 use lib.Dec.{leb, ltb}
 use lib.ListN.{getD}
 use borrow.Author.Tests.{lt-ltb, le-ltb, le-leb, lt-leb, eq-eqb, ne-eqb}
+use Rattle.engine.specs.Engine.{outputsDiffer, largerCount}
 use Rattle.file.specs.File.{sizesOf}
 use Rattle.grid.specs.Grid.{axesOf, gridSize}
 use Rattle.places.specs.Places.{vectorAt}
@@ -25,7 +26,7 @@ use Rattle.sizes.specs.declared.Sizes.{Sizes}
 use Rattle.theorem.specs.Comparison.{firstDifference}
 use Rattle.sessions.specs.Calls.{Call, answerTo, acceptedBudget, IsRefused, IsVerdict}
 use Rattle.sessions.specs.Demand3.{OwnFiles, firstPlace, stop}
-use Rattle.sessions.specs.Session.{sameSizes, pairRefusal, isRefusal, largerCount, misplaced, isClosed, continueRefusal, outputsDiffer, refusedAnswer, plainAnswer, differsAnswer, progress, continued}
+use Rattle.sessions.specs.Session.{sameSizes, pairRefusal, isRefusal, misplaced, isClosed, stateRefusal, continueRefusal, refusedAnswer, plainAnswer, differsAnswer, progress, advanced, continued}
 use Rattle.sessions.specs.declared.Answer.{Answer}
 use Rattle.sessions.specs.declared.Continued.{Continued}
 use Rattle.sessions.specs.declared.Mark.{Mark}
@@ -66,12 +67,12 @@ module _ (z : Session) (c : Call) where
 
   -- a refused call keeps the session
   kept : isRefusal refusal ≡ true → answerTo z c ≡ record { session = z; answer = refusedAnswer refusal }
-  unfolding answerTo continued
+  unfolding answerTo continued advanced
   kept e = rw e
 
   -- the answer is a refusal exactly where a condition refuses the call
   answer-refusal : isRefusal (answerTo z c .answer .refusal) ≡ isRefusal refusal
-  unfolding answerTo continued refusedAnswer
+  unfolding answerTo continued advanced refusedAnswer
   answer-refusal =
       ⊎-elim
       (λ (e : isRefusal refusal ≡ true). rw e e)
@@ -184,7 +185,7 @@ module _ (f₁ f₂ : List ℕ) where
       len = c .scratch
 
       accepted-call : 0 < B → largerCount f₁ f₂ ≤ len → S < D → continueRefusal f₁ f₂ z B len ≡ accepted
-      unfolding continueRefusal misplaced isClosed
+      unfolding continueRefusal stateRefusal misplaced isClosed
       accepted-call b n l =
           let inside : z .position < G = omega (arith, at .position, stop-range .0) in
           rw (
@@ -199,7 +200,7 @@ module _ (f₁ f₂ : List ℕ) where
           )
 
       closed-call : 0 < B → largerCount f₁ f₂ ≤ len → D ≤ S → isRefusal (continueRefusal f₁ f₂ z B len) ≡ true
-      unfolding continueRefusal
+      unfolding continueRefusal stateRefusal
       closed-call b n l =
           rw (ne-eqb B 0 (omega arith), pair, le-ltb len (largerCount f₁ f₂) n, at .sizes, same-refl, closed-mark l)
           (⊎-elim
@@ -208,11 +209,11 @@ module _ (f₁ f₂ : List ℕ) where
           (true-or-false (misplaced G (z .position) (z .mark))))
 
       empty-call : B ≡ 0 → isRefusal (continueRefusal f₁ f₂ z B len) ≡ true
-      unfolding continueRefusal
+      unfolding continueRefusal stateRefusal
       empty-call b = rw (eq-eqb B 0 b)
 
       short-call : 0 < B → len < largerCount f₁ f₂ → isRefusal (continueRefusal f₁ f₂ z B len) ≡ true
-      unfolding continueRefusal
+      unfolding continueRefusal stateRefusal
       short-call b l = rw (ne-eqb B 0 (omega arith), pair, lt-ltb len (largerCount f₁ f₂) l)
 
       -- what refuses a call
@@ -251,7 +252,7 @@ module _ (f₁ f₂ : List ℕ) where
       accepted-progress :
           0 < B → largerCount f₁ f₂ ≤ len → S < D →
           continued f₁ f₂ z B len ≡ progress f₁ f₂ z B G (first (outputsDiffer f₁ f₂) S (min B (G - S)))
-      unfolding continued
+      unfolding continued advanced
       accepted-progress b n l = rw (accepted-call b n l, here l)
 
       -- the first difference is among the next B

@@ -2,43 +2,28 @@
 -- opening have the same sizes, with m from 1 to 64, so that the first difference on the grid is the first of all, and where the grid has
 -- none there is none. Assumes nothing.
 use mathlib.Core.Path.{_≡_, refl, ap, subst}
-use mathlib.Core.Bool.{Bool, true, false, not, cond, and-eq-true-iff}
+use mathlib.Core.Bool.{false}
 use mathlib.Core.Logic.{_↔_, inl, inr}
 use mathlib.Core.List.{List}
 use Prim.Native.Nat.{ℕ, _<_, _≤_}
 use native.Mathlib.Omega.{arith}
-use lib.Dec.{eqb}
-use borrow.Author.Tests.{eqb-true, not-false}
 use Rattle.evaluate.specs.Evaluate.{outputOf}
 use Rattle.file.specs.Accepted.{Accepted}
-use Rattle.file.specs.Check.{fileNumber, refusalOf}
 use Rattle.file.specs.File.{sizesOf}
 use Rattle.file.specs.Steps.{stepsOf}
-use Rattle.file.proofs.Accepted.{accepted}
-use Rattle.file.proofs.Number.{refusal-number}
 use Rattle.grid.specs.Grid.{widthsOf, axesOf, gridSize}
 use Rattle.grid.proofs.Axes.{size-least}
 use Rattle.places.specs.Places.{vectorAt}
-use Rattle.sizes.specs.Sizes.{refusedBy}
-use Rattle.sizes.specs.declared.Refusal.{Refusal}
+use Rattle.sizes.specs.declared.Sizes.{Sizes}
 use Rattle.theorem.specs.Comparison.{Agree, IsFirst}
 use Rattle.theorem.specs.Statement.{OnGrid}
 use Rattle.theorem.proofs.Grid.{gridTheorem}
 use Rattle.sessions.specs.Calls.{IsVerdict}
 use Rattle.sessions.specs.Demand3.{firstPlace, stop, FullWidth, stopVector, Settled, MarkOf}
-use Rattle.sessions.specs.Session.{sameSizes, pairRefusal, isRefusal, plainAnswer, differsAnswer}
+use Rattle.sessions.specs.Session.{pairRefusal, isRefusal, plainAnswer, differsAnswer}
 use Rattle.sessions.specs.declared.Answer.{Answer}
+use Rattle.sessions.proofs.Pair.{comparable}
 use Rattle.sessions.proofs.Step.{markAt, mark-differ, mark-equal, Verdict, differs, equivalent, place-high, stop-differs}
-
--- a condition that would refuse doesn't hold where nothing refuses
-cond-passed :
-    (b : Bool) (r s : Refusal) → (b ≡ true → isRefusal r ≡ true) → isRefusal (cond b r s) ≡ false → (b ≡ false) × (isRefusal s ≡ false)
-cond-passed true r s refuses e = absurd (let t = refuses refl in let q : _≡_ {A = ℕ} 0 1 = cc in omega arith)
-cond-passed false r s refuses e = (refl, e)
-
--- the refusal of a file refuses where its number isn't 0
-file-refuses : (w : ℕ) (s : List ℕ) → not (eqb (fileNumber s) 0) ≡ true → isRefusal (refusalOf w s) ≡ true
-file-refuses w s e = rw (refusal-number s w) e
 
 pub given : (f₁ f₂ : List ℕ) (a : Answer) → Verdict f₁ f₂ a → IsVerdict a
 unfolding plainAnswer differsAnswer
@@ -65,13 +50,7 @@ module _ (f₁ f₂ : List ℕ) (pair : isRefusal (pairRefusal f₁ f₂) ≡ fa
 
   -- what an accepted opening tells of the files
   told : Accepted f₁ × (m ≡ sizesOf f₂ .m)
-  unfolding pairRefusal sameSizes
-  told =
-      let p₁ = cond-passed (not (eqb (fileNumber f₁) 0)) (refusalOf 1 f₁) _ (file-refuses 1 f₁) pair in
-      let p₂ = cond-passed (not (eqb (fileNumber f₂) 0)) (refusalOf 2 f₂) _ (file-refuses 2 f₂) (p₁ .1) in
-      let p₃ = cond-passed (not (sameSizes (sizesOf f₁) (sizesOf f₂))) (refusedBy 9) _ (λ _. refl) (p₂ .1) in
-      let both = and-eq-true-iff _ _ .0 (and-eq-true-iff _ _ .0 (not-false _ (p₃ .0)) .0) in
-      (accepted f₁ (eqb-true _ _ (not-false _ (p₁ .0))), eqb-true _ _ (both .0))
+  told = let c = comparable f₁ f₂ pair in (c .sound₁, ap (λ (z : Sizes). z .m) (c .same))
 
   -- the grid has a vector
   pub grid-least : 1 ≤ gridSize (sizesOf f₁)

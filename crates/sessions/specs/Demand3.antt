@@ -20,6 +20,7 @@ use mathlib.Core.List.{List, [], _∷_, _++_}
 use Prim.Native.Nat.{ℕ, _+_, _-_, _<_, _≤_, min}
 use lib.Dec.{ltb}
 use Rattle.bound.specs.Axes.{ranges}
+use Rattle.engine.specs.Engine.{largerCount}
 use Rattle.evaluate.specs.Evaluate.{outputOf}
 use Rattle.file.specs.File.{sizesOf}
 use Rattle.file.specs.Steps.{stepsOf}
@@ -27,7 +28,8 @@ use Rattle.grid.specs.Grid.{widthsOf, axesOf, gridSize}
 use Rattle.places.specs.Places.{Below, vectorAt}
 use Rattle.theorem.specs.Comparison.{firstDifference, IsFirst}
 use Rattle.sessions.specs.Calls.{Call, answerTo, sessionAfter, answers, IsRefused, IsVerdict, budgets, vectorsRun, Each}
-use Rattle.sessions.specs.Session.{opened, largerCount, shown}
+use Rattle.vectors.specs.Vectors.{held}
+use Rattle.sessions.specs.Session.{opened}
 use Rattle.sessions.specs.declared.Answer.{Answer}
 use Rattle.sessions.specs.declared.Mark.{Mark}
 use Rattle.sessions.specs.declared.Mark.the-variants.{Open, Equal, Differ}
@@ -59,7 +61,7 @@ stopVector f₁ f₂ = vectorAt (axesOf (sizesOf f₁)) (stop f₁ f₂ - 1)
 
 pub record ShowsFirst (f₁ f₂ : List ℕ) (a : Answer) : Type 0 where
   pub first : IsFirst (sizesOf f₁ .m) (widthsOf (sizesOf f₁)) (stepsOf f₁) (stepsOf f₂) (stopVector f₁ f₂)
-  pub vector : a .vector ≡ shown (stopVector f₁ f₂)
+  pub vector : a .vector ≡ held (stopVector f₁ f₂)
   pub output₁ : a .output1 ≡ outputOf f₁ (stopVector f₁ f₂)
   pub output₂ : a .output2 ≡ outputOf f₂ (stopVector f₁ f₂)
 

@@ -2,28 +2,28 @@
 --   sameSizes z w          m, d and all word lengths are the same
 --   pairRefusal s₁ s₂      what both calls judge of two files: file 1, file 2, 9, 10
 --   opened s₁ s₂           what opening answers
---   largerCount s₁ s₂      the larger N of two files
 --   misplaced G p mark     102. the position doesn't fit the mark
+--   stateRefusal           101, 102, 103
 --   continueRefusal        11, the files, 12, 101, 102, 103
---   outputsDiffer          a test: the files' outputs differ at the grid's vector at place p
+--   advanced               an accepted call: the session handed back and the answer
 --   continued              what continuing answers: the session handed back and the answer
 --   scratchAfter           the scratch slice after a continue call
 use mathlib.Core.Bool.{Bool, true, false, not, cond, _&&_}
 use mathlib.Core.List.{List, _++_}
-use Prim.Native.Nat.{ℕ, _+_, _-_, min, max}
+use Prim.Native.Nat.{ℕ, _+_, _-_, min}
 use lib.Dec.{leb, ltb, eqb}
 use lib.ListN.{length, getD, drop, replicate}
+use Rattle.engine.specs.Engine.{outputsDiffer, largerCount}
 use Rattle.evaluate.specs.Evaluate.{outputOf, shortScratch}
 use Rattle.file.specs.Check.{fileNumber, refusalOf}
-use Rattle.file.specs.File.{sizesOf, stepCount}
-use Rattle.file.specs.Steps.{stepsOf}
+use Rattle.file.specs.File.{sizesOf}
 use Rattle.grid.specs.Grid.{axesOf, gridSize, tooLarge}
 use Rattle.places.specs.Places.{vectorAt}
 use Rattle.search.specs.Search.{first, every}
 use Rattle.sizes.specs.Sizes.{maxInputs, within, refusedBy, accepted}
 use Rattle.sizes.specs.declared.Refusal.{Refusal}
 use Rattle.sizes.specs.declared.Sizes.{Sizes}
-use Rattle.theorem.specs.Comparison.{differsAt}
+use Rattle.vectors.specs.Vectors.{held}
 use Rattle.sessions.specs.declared.Answer.{Answer}
 use Rattle.sessions.specs.declared.Continued.{Continued}
 use Rattle.sessions.specs.declared.Mark.{Mark}
@@ -62,9 +62,6 @@ opened s₁ s₂ =
           (record { sizes = sizesOf s₁; position = 0; mark = Open });
     }
 
-abbrev pub largerCount : List ℕ → List ℕ → ℕ
-largerCount s₁ s₂ = max (stepCount s₁) (stepCount s₂)
-
 -- open needs below G, equal needs G, differ needs 1 to G
 unfoldable pub misplaced : ℕ → ℕ → Mark → Bool
 misplaced G p Open = not (ltb p G)
@@ -76,21 +73,19 @@ isClosed Open = false
 isClosed Equal = true
 isClosed Differ = true
 
+-- 101. the session's m, d or word lengths are not the files', which are w. 102, on a grid of G vectors. 103. the mark is not open
+unfoldable pub stateRefusal : Sizes → ℕ → Session → Refusal
+stateRefusal w G z =
+    cond (not (sameSizes (z .sizes) w)) (refusedBy 101)
+    (cond (misplaced G (z .position) (z .mark)) (refusedBy 102)
+    (cond (isClosed (z .mark)) (refusedBy 103) accepted))
+
 unfoldable pub continueRefusal : List ℕ → List ℕ → Session → ℕ → ℕ → Refusal
 continueRefusal s₁ s₂ z B len =
     cond (eqb B 0) (refusedBy 11)
     (cond (isRefusal (pairRefusal s₁ s₂)) (pairRefusal s₁ s₂)
     (cond (shortScratch (largerCount s₁ s₂) len) (refusedBy 12)
-    (cond (not (sameSizes (z .sizes) (sizesOf s₁))) (refusedBy 101)
-    (cond (misplaced (gridSize (sizesOf s₁)) (z .position) (z .mark)) (refusedBy 102)
-    (cond (isClosed (z .mark)) (refusedBy 103) accepted)))))
-
-unfoldable pub outputsDiffer : List ℕ → List ℕ → ℕ → Bool
-outputsDiffer s₁ s₂ = differsAt (sizesOf s₁ .m) (axesOf (sizesOf s₁)) (stepsOf s₁) (stepsOf s₂)
-
--- the vector with zeros for the inputs that the files don't have
-abbrev pub shown : List ℕ → List ℕ
-shown v = v ++ replicate (maxInputs - length v) 0
+    (stateRefusal (sizesOf s₁) (gridSize (sizesOf s₁)) z)))
 
 unfoldable pub refusedAnswer : Refusal → Answer
 refusedAnswer r =
@@ -104,33 +99,35 @@ plainAnswer o n =
 -- the answer that shows the vector x with both outputs, after n vectors
 unfoldable pub differsAnswer : List ℕ → List ℕ → List ℕ → ℕ → Answer
 differsAnswer s₁ s₂ x n =
-    record { refusal = accepted; outcome = Differs; run = n; vector = shown x; output1 = outputOf s₁ x; output2 = outputOf s₂ x }
+    record { refusal = accepted; outcome = Differs; run = n; vector = held x; output1 = outputOf s₁ x; output2 = outputOf s₂ x }
 
--- An accepted call from position p with budget B on a grid of G vectors, of which q is the first among the next B at which the outputs
--- differ, or the end of these where there is none
+-- the session z at another position and under another mark
+abbrev pub movedTo : Session → ℕ → Mark → Session
+movedTo z p mark = record { sizes = z .sizes; position = p; mark = mark }
+
+-- An accepted call from the session's position with budget B on a grid of G vectors, of which q is the first among the next B at which the
+-- outputs differ, or the end of these where there is none
 unfoldable pub progress : List ℕ → List ℕ → Session → ℕ → ℕ → ℕ → Continued
 progress s₁ s₂ z B G q =
     cond (ltb q (z .position + min B (G - z .position)))
     (record {
-      session = record { sizes = z .sizes; position = q + 1; mark = Differ };
+      session = movedTo z (q + 1) Differ;
       answer = differsAnswer s₁ s₂ (vectorAt (axesOf (sizesOf s₁)) q) (q + 1 - z .position);
     })
     (cond (leb G (z .position + B))
-    (record {
-      session = record { sizes = z .sizes; position = G; mark = Equal };
-      answer = plainAnswer Equivalent (G - z .position);
-    })
-    (record {
-      session = record { sizes = z .sizes; position = z .position + B; mark = Open };
-      answer = plainAnswer Spent B;
-    }))
+    (record { session = movedTo z G Equal; answer = plainAnswer Equivalent (G - z .position) })
+    (record { session = movedTo z (z .position + B) Open; answer = plainAnswer Spent B }))
+
+unfoldable pub advanced : List ℕ → List ℕ → Session → ℕ → Continued
+advanced s₁ s₂ z B =
+    progress s₁ s₂ z B (gridSize (sizesOf s₁))
+    (first (outputsDiffer s₁ s₂) (z .position) (min B (gridSize (sizesOf s₁) - z .position)))
 
 unfoldable pub continued : List ℕ → List ℕ → Session → ℕ → ℕ → Continued
 continued s₁ s₂ z B len =
     cond (isRefusal (continueRefusal s₁ s₂ z B len))
     (record { session = z; answer = refusedAnswer (continueRefusal s₁ s₂ z B len) })
-    (progress s₁ s₂ z B (gridSize (sizesOf s₁))
-    (first (outputsDiffer s₁ s₂) (z .position) (min B (gridSize (sizesOf s₁) - z .position))))
+    (advanced s₁ s₂ z B)
 
 unfoldable pub scratchAfter : List ℕ → List ℕ → Session → ℕ → List ℕ → List ℕ
 scratchAfter s₁ s₂ z B scratch =

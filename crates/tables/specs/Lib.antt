@@ -1,2 +1,3 @@
 pub mod Demand2
+pub mod Filling
 pub mod Tables

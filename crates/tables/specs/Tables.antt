@@ -1,7 +1,7 @@
 -- Making difference tables, differencing given outputs, and summing (document 01, 'Output, grid and order' and 'Refused because of the
 -- input'). G is the size of the grid. Differencing and summing read one slice and write the first G entries of another.
---   shortSlice z len         13, first part: a slice of len entries has fewer than G
---   largeCell z cells        13, second part: one of the first G cells given is 2^m or more
+--   shortSlice g len         13, first part: a slice of len entries has fewer than G, which is g
+--   largeCell m g cells      13, second part: one of the first G cells given is 2^m or more
 --   tableRefusal s room len  what making a table answers, with room scratch entries and len table entries: the file's refusal, 10, 12, 13
 --   cellsRefusal z cells len what differencing or summing answers, with the cells that are read and len entries to write: 2, 3, 5, 10, 13
 --   tableOfFile s            the difference table of the exact values of the file s, over the grid
@@ -27,26 +27,26 @@ use Rattle.sizes.specs.declared.Refusal.{Refusal}
 use Rattle.sizes.specs.declared.Sizes.{Sizes}
 use Rattle.steps.specs.Steps.{exact}
 
-unfoldable pub shortSlice : Sizes → ℕ → Bool
-shortSlice z len = ltb len (gridSize z)
+abbrev pub shortSlice : ℕ → ℕ → Bool
+shortSlice g len = ltb len g
 
 -- cell p is below 2^m
-unfoldable pub smallCell : Sizes → List ℕ → ℕ → Bool
-smallCell z cells p = ltb (getD cells p 0) (2 ^ z .m)
+unfoldable pub smallCell : ℕ → List ℕ → ℕ → Bool
+smallCell m cells p = ltb (getD cells p 0) (2 ^ m)
 
-unfoldable pub largeCell : Sizes → List ℕ → Bool
-largeCell z cells = not (every (smallCell z cells) 0 (gridSize z))
+unfoldable pub largeCell : ℕ → ℕ → List ℕ → Bool
+largeCell m g cells = not (every (smallCell m cells) 0 g)
 
 -- 13 of a call that reads cells and writes len entries
 unfoldable pub badCells : Sizes → List ℕ → ℕ → Bool
-badCells z cells len = shortSlice z (length cells) || shortSlice z len || largeCell z cells
+badCells z cells len = shortSlice (gridSize z) (length cells) || shortSlice (gridSize z) len || largeCell (z .m) (gridSize z) cells
 
 unfoldable pub tableRefusal : List ℕ → ℕ → ℕ → Refusal
 tableRefusal s room len =
     cond (eqb (fileNumber s) 0)
     (cond (tooLarge (sizesOf s)) (refusedBy 10)
     (cond (shortScratch (stepCount s) room) (refusedBy 12)
-    (cond (shortSlice (sizesOf s) len) (refusedBy 13) accepted)))
+    (cond (shortSlice (gridSize (sizesOf s)) len) (refusedBy 13) accepted)))
     (refusalOf 1 s)
 
 unfoldable pub cellsRefusal : Sizes → List ℕ → ℕ → Refusal

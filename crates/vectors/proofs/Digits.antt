@@ -1,7 +1,8 @@
--- A vector's entries as the digits of its place: one entry, taken by the size of the later axes, is what it weighs in the place, so a write of
--- one entry moves the place by that weight. Each by recursion on the axes.
+-- The entries of a vector are the digits of its place: each weighs the size of the axes after it, so the write of one entry moves the place
+-- by that weight. By recursion on the axes.
+-- Assumes nothing.
 use mathlib.Core.Path.{_≡_, refl, sym, _∙_, ap}
-use mathlib.Core.List.{List, [], _∷_, _++_}
+use mathlib.Core.List.{List, [], _∷_}
 use Prim.Native.Nat.{ℕ, zero, suc, _+_, _*_, _-_, _<_, _≤_}
 use native.Mathlib.Omega.{arith}
 use lib.ListN.{length, getD, take, drop, set, replicate, length-set, length-replicate, replicate-append-replicate, List·getD-append}
@@ -67,14 +68,15 @@ pub zeros :
     (us x : List ℕ) (n : ℕ) → length us ≡ n → n ≤ maxInputs → Below us x →
     Digits us (replicate maxInputs 0) (replicate n 0) × (placeOf us (replicate n 0) ≡ 0)
 zeros us x n l h b =
-    let e : maxInputs ≡ n + (maxInputs - n) = omega arith in
-    (record {
-      shape = rw (length-replicate, replicate-append-replicate) (ap (λ k. replicate k 0) e);
-      below = rw (← l) (below-zeros us x b);
-    },
-    rw (← l) (place-zeros us))
+    let e : maxInputs ≡ n + (maxInputs - n) = omega arith in (
+      record {
+        shape = rw (length-replicate, replicate-append-replicate) (ap (λ k. replicate k 0) e);
+        below = rw (← l) (below-zeros us x b);
+      },
+      rw (← l) (place-zeros us),
+    )
 
-module _ (us v x : List ℕ) (g : Digits us v x) where
+module _ {us v x : List ℕ} (g : Digits us v x) where
   pub digit : (i : ℕ) → i < length us → getD v i 0 ≡ getD x i 0
   digit i h = ap (λ l. getD l i 0) (g .shape) ∙ List·getD-append x _ 0 i (omega (arith, below-length us x (g .below)))
 
@@ -100,5 +102,6 @@ same-place us p q hp hq e = sym (oneToOne us .placed p hp) ∙ ap (placeOf us) s
   where
     front : (r : ℕ) → r < size us → take (length us) (held (vectorAt us r)) ≡ vectorAt us r
     front r h = take-at (vectorAt us r) _ (length us) (below-length us (vectorAt us r) (oneToOne us .below r h))
+
     same : vectorAt us p ≡ vectorAt us q
     same = sym (front p hp) ∙ ap (take (length us)) e ∙ front q hq

@@ -1,5 +1,5 @@
--- `vectors::next_vector` meets its contract. The loop's invariant: the entries from i on have gone from their last values to 0, and the vector
--- is one block of the axes from i on short of the place after the first.
+-- `vectors::next_vector` meets its contract. The loop's invariant: the entries from i on went to 0 from their last values, and the place is
+-- one block of the size of the axes from i on short of the next.
 -- Assumes nothing.
 use mathlib.Core.Path.{_≡_, sym, _∙_, ap}
 use mathlib.Core.List.{List}
@@ -39,7 +39,7 @@ start axes d v l s =
       place = rw (oneToOne us .placed (s .place) (s .inside), size-end us d l);
     }
 
-module _ (axes : List ℕ) (d : ℕ) (v₀ v : List ℕ) (i : ℕ) (f : Carried axes d v₀ v i) where
+module _ {axes : List ℕ} {d : ℕ} {v₀ v : List ℕ} {i : ℕ} (f : Carried axes d v₀ v i) where
   abbrev us : List ℕ
   us = take d axes
 
@@ -61,10 +61,10 @@ module _ (axes : List ℕ) (d : ℕ) (v₀ v : List ℕ) (i : ℕ) (f : Carried 
     axis = getD-take d axes (i - 1) 0 (omega (arith, f .within))
 
     entry : w ≡ getD (f .vector) (i - 1) 0
-    entry = digit us v (f .vector) (f .digits) (i - 1) inside
+    entry = digit (f .digits) (i - 1) inside
 
     below : w < u
-    below = omega (arith, axis, entry, digit-below us v (f .vector) (f .digits) (i - 1) inside)
+    below = omega (arith, axis, entry, digit-below (f .digits) (i - 1) inside)
 
     next : suc (i - 1) ≡ i
     next = omega arith
@@ -80,7 +80,7 @@ module _ (axes : List ℕ) (d : ℕ) (v₀ v : List ℕ) (i : ℕ) (f : Carried 
           long = f .long;
           first = f .first;
           vector = set (f .vector) (i - 1) 0;
-          digits = written us v (f .vector) (f .digits) (i - 1) 0 inside (omega (arith, axis));
+          digits = written (f .digits) (i - 1) 0 inside (omega (arith, axis));
           place =
               rw (size-drop us (i - 1) inside, axis, next)
               (omega (arith, ap (λ k. k * size (drop i us)) n, weighed 0, f .place));
@@ -88,14 +88,12 @@ module _ (axes : List ℕ) (d : ℕ) (v₀ v : List ℕ) (i : ℕ) (f : Carried 
 
     up : w + 1 < u → (p : ℕ) → p + 1 < size us → v₀ ≡ held (vectorAt us p) → set v (i - 1) (w + 1) ≡ held (vectorAt us (p + 1))
     up l p h s =
-        placed us (set v (i - 1) (w + 1)) (set (f .vector) (i - 1) (w + 1))
-        (written us v (f .vector) (f .digits) (i - 1) (w + 1) inside (omega (arith, axis)))
-        (p + 1)
+        placed (written (f .digits) (i - 1) (w + 1) inside (omega (arith, axis))) (p + 1)
         (omega (arith, weighed (w + 1), f .place, meant p h s))
 
 -- past the first input there is no next vector
 wrapped : (axes : List ℕ) (d : ℕ) (v₀ v : List ℕ) (p : ℕ) → Carried axes d v₀ v 0 → p + 1 < size (take d axes) → ¬ (v₀ ≡ held (vectorAt (take d axes) p))
-wrapped axes d v₀ v p f h s = omega (arith, f .place, meant axes d v₀ v 0 f p h s)
+wrapped axes d v₀ v p f h s = omega (arith, f .place, meant f p h s)
 
 abbrev Inv-loop : tie.InvT-loop
 Inv-loop d axes next₀ i₀ next i = Carried axes d next₀ next i
@@ -125,7 +123,7 @@ add-x c =
     let a = c .before .before .args in
     let j = c .before .loop .i - 1 in
     let most : Fits w64 (getD (a .t1) j 0) = search needs in
-    omega (arith, most .fits, below _ _ _ _ _ (c .before .loop .inv) (c .loop-test .taken))
+    omega (arith, most .fits, below (c .before .loop .inv) (c .loop-test .taken))
 
 -- src/lib.rt:39:16
 mul-if1 : tie.Need-mul-if1 Inv-loop μ-loop
@@ -146,7 +144,7 @@ array-write-next c = search needs
 -- src/lib.rt:41:13
 returns : tie.Need-returns Inv-loop μ-loop
 returns c =
-    up _ _ _ _ _ (c .before .before .loop .inv) (c .before .loop-test .taken) (c .if1 .taken)
+    up (c .before .before .loop .inv) (c .before .loop-test .taken) (c .if1 .taken)
 
 -- src/lib.rt:43:9
 mul-next-2 : tie.Need-mul-next-2 Inv-loop μ-loop
@@ -163,7 +161,7 @@ loop-less c = search needs
 -- src/lib.rt:36:5
 loop-again : tie.Need-loop-again Inv-loop μ-loop
 loop-again c =
-    carry _ _ _ _ _ (c .before .before .loop .inv) (c .before .loop-test .taken) (c .if1 .left)
+    carry (c .before .before .loop .inv) (c .before .loop-test .taken) (c .if1 .left)
 
 -- src/lib.rt:29:1
 returns-2 : tie.Need-returns-2 Inv-loop μ-loop

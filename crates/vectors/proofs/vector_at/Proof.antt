@@ -1,7 +1,7 @@
--- `vectors::vector_at` meets its contract. The loop's invariant: the entries before i are 0, those from i on are written, and what is left of
--- p counts the vectors of the axes from i on, taken whole.
+-- `vectors::vector_at` meets its contract. The loop's invariant: the entries before i are 0, those from i on are the digits so far, and the
+-- rest counts blocks of the size of the axes from i on.
 -- Assumes nothing.
-use mathlib.Core.Path.{_≡_, sym, _∙_, ap}
+use mathlib.Core.Path.{_≡_, _∙_, ap}
 use mathlib.Core.List.{List}
 use Prim.Native.Nat.{ℕ, zero, suc, _+_, _*_, _/_, _%_, _-_, _≤_, _<_}
 use native.Mathlib.Nat.{mod-lt, div-add-mod'}
@@ -12,7 +12,6 @@ use lib.Seq.{getD-set-other, length-take-le, getD-take}
 use Rattle.places.specs.Places.{size, vectorAt, placeOf}
 use Rattle.places.proofs.Places.{oneToOne}
 use Rattle.sizes.specs.Sizes.{maxInputs}
-use Rattle.vectors.specs.Vectors.{held}
 use Rattle.vectors.proofs.Digits.{Digits, digit-below, place-set, placed, size-drop, size-end, written, zeros}
 use Rattle.vectors.proofs.vector_at.Statement.{statement}
 use Rattle.vectors.proofs.vector_at.Tie as tie
@@ -40,7 +39,7 @@ start axes d p m l h =
       place = rw (z .1, size-end us d l) (omega arith);
     }
 
-module _ (axes : List ℕ) (d p : ℕ) (v : List ℕ) (rest i : ℕ) (f : Decoded axes d p v rest i) (t : 0 < i) where
+module _ {axes : List ℕ} {d p : ℕ} {v : List ℕ} {rest i : ℕ} (f : Decoded axes d p v rest i) (t : 0 < i) where
   abbrev us : List ℕ
   us = take d axes
 
@@ -54,7 +53,7 @@ module _ (axes : List ℕ) (d p : ℕ) (v : List ℕ) (rest i : ℕ) (f : Decode
   axis = getD-take d axes (i - 1) 0 (omega (arith, f .within))
 
   some : 0 < u
-  some = omega (arith, axis, digit-below us v (f .vector) (f .digits) (i - 1) inside)
+  some = omega (arith, axis, digit-below (f .digits) (i - 1) inside)
 
   more : Decoded axes d p (set v (i - 1) (rest % u)) (rest / u) (i - 1)
   more =
@@ -65,7 +64,7 @@ module _ (axes : List ℕ) (d p : ℕ) (v : List ℕ) (rest i : ℕ) (f : Decode
         within = omega (arith, f .within);
         long = f .long;
         vector = set x (i - 1) (rest % u);
-        digits = written us v x (f .digits) (i - 1) (rest % u) inside (omega (arith, axis, mod-lt rest some));
+        digits = written (f .digits) (i - 1) (rest % u) inside (omega (arith, axis, mod-lt rest some));
         clear = λ j l. getD-set-other x (i - 1) j (rest % u) 0 (λ (n : j ≡ i - 1). omega arith) ∙ f .clear j (omega arith);
         place =
             rw (size-drop us (i - 1) inside, axis, e)
@@ -102,7 +101,7 @@ array-read-u c = search needs
 
 -- src/lib.rt:21:16
 rem-v : tie.Need-rem-v Inv-loop μ-loop
-rem-v c = some _ _ _ _ _ _ (c .before .loop .inv) (c .loop-test .taken)
+rem-v c = some (c .before .loop .inv) (c .loop-test .taken)
 
 -- src/lib.rt:21:9
 mul-v : tie.Need-mul-v Inv-loop μ-loop
@@ -114,7 +113,7 @@ array-write-v c = search needs
 
 -- src/lib.rt:22:16
 div-rest : tie.Need-div-rest Inv-loop μ-loop
-div-rest c = some _ _ _ _ _ _ (c .before .loop .inv) (c .loop-test .taken)
+div-rest c = some (c .before .loop .inv) (c .loop-test .taken)
 
 -- src/lib.rt:18:5
 loop-less : tie.Need-loop-less Inv-loop μ-loop
@@ -122,14 +121,14 @@ loop-less c = search needs
 
 -- src/lib.rt:18:5
 loop-again : tie.Need-loop-again Inv-loop μ-loop
-loop-again c = more _ _ _ _ _ _ (c .before .loop .inv) (c .loop-test .taken)
+loop-again c = more (c .before .loop .inv) (c .loop-test .taken)
 
 -- src/lib.rt:10:1
 returns : tie.Need-returns Inv-loop μ-loop
 returns c =
     let f = c .before .loop .inv in
     let e : c .before .loop .i ≡ 0 = omega arith in
-    placed _ _ _ (f .digits) _ (end _ _ _ _ (rw e at (f .place)) (c .before .before .pre .1))
+    placed (f .digits) _ (end _ _ _ _ (rw e at (f .place)) (c .before .before .pre .1))
 
 pub vector-at-spec : {M : Type 1} → statement M
 vector-at-spec =

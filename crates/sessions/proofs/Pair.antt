@@ -1,0 +1,86 @@
+-- Two files judged together: each answer by the tests that lead to it, and what an accepted pair tells: both files are accepted and have the
+-- same sizes. Assumes nothing.
+use mathlib.Core.Path.{_≡_, refl, sym, _∙_, ap}
+use mathlib.Core.Bool.{Bool, true, false, not, cond, and-eq-true-iff}
+use mathlib.Core.List.{List}
+use Prim.Native.Nat.{ℕ, _<_, _≤_}
+use native.Mathlib.Omega.{arith}
+use lib.Dec.{eqb}
+use lib.ListN.{length, getD, length-take, length-drop}
+use lib.Seq.{ext-getD}
+use borrow.Author.Tests.{eq-eqb, ne-eqb, eqb-true, not-false}
+use Rattle.engine.specs.Engine.{Comparable}
+use Rattle.file.specs.Accepted.{Accepted}
+use Rattle.file.specs.Check.{fileNumber, refusalOf}
+use Rattle.file.specs.File.{sizesOf}
+use Rattle.file.proofs.Accepted.{accepted}
+use Rattle.file.proofs.Number.{refusal-number}
+use Rattle.grid.proofs.Axes.{never-large}
+use Rattle.search.specs.Search.{every}
+use Rattle.search.proofs.Search.{every-at}
+use Rattle.sizes.specs.Sizes.{maxInputs, refusedBy}
+use Rattle.sizes.specs.declared.Refusal.{Refusal}
+use Rattle.sizes.specs.declared.Sizes.{Sizes}
+use Rattle.sessions.specs.Session.{sameSizes, pairRefusal, isRefusal}
+
+module _ (s₁ s₂ : List ℕ) where
+  pub pair-first : ¬ (fileNumber s₁ ≡ 0) → pairRefusal s₁ s₂ ≡ refusalOf 1 s₁
+  unfolding pairRefusal
+  pair-first n = rw (ne-eqb (fileNumber s₁) 0 n)
+
+  module _ (e₁ : fileNumber s₁ ≡ 0) where
+    pub pair-second : ¬ (fileNumber s₂ ≡ 0) → pairRefusal s₁ s₂ ≡ refusalOf 2 s₂
+    unfolding pairRefusal
+    pair-second n = rw (eq-eqb (fileNumber s₁) 0 e₁, ne-eqb (fileNumber s₂) 0 n)
+
+    module _ (e₂ : fileNumber s₂ ≡ 0) where
+      pub pair-9 : sameSizes (sizesOf s₁) (sizesOf s₂) ≡ false → pairRefusal s₁ s₂ ≡ refusedBy 9
+      unfolding pairRefusal
+      pair-9 e = rw (eq-eqb (fileNumber s₁) 0 e₁, eq-eqb (fileNumber s₂) 0 e₂, e)
+
+      pub pair-0 : sameSizes (sizesOf s₁) (sizesOf s₂) ≡ true → pairRefusal s₁ s₂ ≡ refusedBy 0
+      unfolding pairRefusal
+      pair-0 e =
+          let a = accepted s₁ e₁ in
+          rw
+          (eq-eqb (fileNumber s₁) 0 e₁, eq-eqb (fileNumber s₂) 0 e₂, e,
+          never-large (sizesOf s₁) (a .outputLow) (a .outputHigh) (a .inputsHigh))
+
+-- sizes with eight word lengths that pass the test are equal
+same-equal : (z w : Sizes) → length (z .widths) ≡ maxInputs → length (w .widths) ≡ maxInputs → sameSizes z w ≡ true → z ≡ w
+unfolding sameSizes
+same-equal z w lz lw e =
+    let p = and-eq-true-iff _ _ .0 e in
+    let q = and-eq-true-iff _ _ .0 (p .0) in
+    let widths : z .widths ≡ w .widths =
+          ext-getD 0 (z .widths) (w .widths) (lz ∙ sym lw)
+          (λ i h. eqb-true _ _ (every-at _ 0 maxInputs i (p .1) (omega arith) (omega arith))) in
+    λ i. record { m = eqb-true (z .m) (w .m) (q .0) i; d = eqb-true (z .d) (w .d) (q .1) i; widths = widths i }
+
+eight-widths : (s : List ℕ) → Accepted s → length (sizesOf s .widths) ≡ maxInputs
+unfolding sizesOf
+eight-widths s a = rw (length-take, length-drop) (omega (arith, a .long))
+
+-- a condition that would refuse doesn't hold where nothing refuses
+pub cond-passed :
+    (b : Bool) (r s : Refusal) → (b ≡ true → isRefusal r ≡ true) → isRefusal (cond b r s) ≡ false → (b ≡ false) × (isRefusal s ≡ false)
+cond-passed true r s refuses e = absurd (let t = refuses refl in let q : _≡_ {A = ℕ} 0 1 = cc in omega arith)
+cond-passed false r s refuses e = (refl, e)
+
+-- the refusal of a file refuses where its number isn't 0
+file-refuses : (w : ℕ) (s : List ℕ) → not (eqb (fileNumber s) 0) ≡ true → isRefusal (refusalOf w s) ≡ true
+file-refuses w s e = rw (refusal-number s w) e
+
+pub comparable : (s₁ s₂ : List ℕ) → isRefusal (pairRefusal s₁ s₂) ≡ false → Comparable s₁ s₂
+unfolding pairRefusal
+comparable s₁ s₂ pair =
+    let p₁ = cond-passed (not (eqb (fileNumber s₁) 0)) (refusalOf 1 s₁) _ (file-refuses 1 s₁) pair in
+    let p₂ = cond-passed (not (eqb (fileNumber s₂) 0)) (refusalOf 2 s₂) _ (file-refuses 2 s₂) (p₁ .1) in
+    let p₃ = cond-passed (not (sameSizes (sizesOf s₁) (sizesOf s₂))) (refusedBy 9) _ (λ _. refl) (p₂ .1) in
+    let a₁ = accepted s₁ (eqb-true _ _ (not-false _ (p₁ .0))) in
+    let a₂ = accepted s₂ (eqb-true _ _ (not-false _ (p₂ .0))) in
+    record {
+      sound₁ = a₁;
+      sound₂ = a₂;
+      same = same-equal (sizesOf s₁) (sizesOf s₂) (eight-widths s₁ a₁) (eight-widths s₂ a₂) (not-false _ (p₃ .0));
+    }

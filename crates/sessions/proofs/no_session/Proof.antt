@@ -1,0 +1,16 @@
+-- `sessions::no_session` meets its contract.
+-- Assumes nothing.
+use mathlib.Core.Path.{refl}
+use Rattle.sessions.specs.Session.{noSession}
+use Rattle.sessions.proofs.no_session.Statement.{statement}
+use Rattle.sessions.proofs.no_session.Tie as tie
+use Rattle.sessions.proofs.no_session.Reads as reads
+use Rattle.sessions.proofs.no_session.Lts as lts
+
+-- src/lib.rt:107:1
+returns : tie.Need-returns
+unfolding noSession
+returns c = refl
+
+pub no-session-spec : {M : Type 1} → statement M
+no-session-spec = tie.close (tie.spec returns)

@@ -1,0 +1,28 @@
+-- `sessions::plain_answer` meets its contract.
+-- Assumes nothing.
+use mathlib.Core.Path.{ap}
+use Rattle.sizes.specs.declared.Refusal.{Refusal}
+use Rattle.sizes.specs.Sizes.{maxInputs}
+use lib.ListN.{replicate}
+use Rattle.sessions.specs.Session.{plainAnswer}
+use Rattle.sessions.specs.declared.Answer.{Answer}
+use borrow.Author.Needs.{needs}
+use Rattle.sessions.proofs.plain_answer.Statement.{statement}
+use Rattle.sessions.proofs.plain_answer.Tie as tie
+use Rattle.sessions.proofs.plain_answer.Reads as reads
+use Rattle.sessions.proofs.plain_answer.Lts as lts
+use Rattle.sizes.proofs.refused_by.Reads as refused-by-reads
+
+-- src/lib.rt:240:18
+refused-by-requires : tie.Need-refused-by-requires
+refused-by-requires c κs = search needs
+
+-- src/lib.rt:236:1
+returns : tie.Need-returns
+unfolding plainAnswer
+returns c =
+    let a = c .before .args in
+    λ i. record { refusal = c .refused-by .ensures i; outcome = a .outcome; run = a .run; vector = replicate maxInputs 0; output1 = 0; output2 = 0 }
+
+pub plain-answer-spec : {M : Type 1} → statement M
+plain-answer-spec = tie.close (tie.spec refused-by-requires returns)

@@ -1,0 +1,125 @@
+-- The table of a file. Its outputs are its exact values modulo 2^m, and functions that are congruent over the grid have equal tables: so the
+-- outputs, differenced, give the table of the exact values; and that table, summed, gives the outputs.
+use mathlib.Core.Path.{_≡_, refl, sym, _∙_, ap}
+use mathlib.Core.List.{List, [], _∷_, _++_}
+use Prim.Native.Nat.{ℕ, zero, suc, _-_, _^_, _≤_, _<_}
+use native.Mathlib.Nat.{mod-eq-of-lt}
+use native.Mathlib.Omega.{arith}
+use lib.IntN.{ℤ, negsuc}
+use lib.ListN.{length, getD, take, drop, replicate, length-take, length-drop}
+use lib.Pow.{pow-pos}
+use lib.Seq.{take-all}
+use Rattle.differences.specs.Table.{mixedDifference, listed, tableOf, given}
+use Rattle.differences.proofs.Listed.{length-values, listed-equal, given-listed}
+use Rattle.differences.proofs.Neighbours.{mixed-remainder}
+use Rattle.differences.proofs.Tables.{difference-mixed, sumOfTable}
+use Rattle.evaluate.specs.Evaluate.{outputOf}
+use Rattle.file.specs.Accepted.{Accepted}
+use Rattle.file.specs.File.{sizesOf, stepCount}
+use Rattle.file.specs.Steps.{stepsOf}
+use Rattle.grid.specs.Grid.{axesOf, gridSize, gridOf}
+use Rattle.grid.specs.declared.Grid.{Grid}
+use Rattle.integers.specs.Modulo.{remainder}
+use Rattle.integers.proofs.Remainder.{remainder-pos, remainder-lt}
+use Rattle.places.specs.Places.{Below, size, vectorAt}
+use Rattle.sizes.specs.Sizes.{maxInputs}
+use Rattle.sizes.specs.declared.Sizes.{Sizes}
+use Rattle.steps.specs.Steps.{exact, output}
+use Rattle.steps.proofs.Values.{values-entries}
+use Rattle.vectors.specs.Vectors.{held}
+use Rattle.tables.specs.Filling.{Filling}
+use Rattle.tables.specs.Tables.{tableOfFile, differencesOf, sumsOf}
+use Rattle.tables.proofs.Grids.{Sound, grid-axes, grid-least, in-place}
+
+-- functions that are congruent over the grid have equal tables
+table-congruent :
+    (M : ℕ) → 0 < M → (us : List ℕ) (F H : List ℕ → ℤ) →
+    ((x : List ℕ) → Below us x → remainder (F x) M ≡ remainder (H x) M) → tableOf M us F ≡ tableOf M us H
+unfolding tableOf
+table-congruent M z us F H e =
+    listed-equal us (λ k. remainder (mixedDifference k F) M) (λ k. remainder (mixedDifference k H) M)
+    (λ k b.
+    ap (λ a. remainder a M) (difference-mixed k F)
+    ∙ mixed-remainder M z (negsuc 0) us k F H b e
+    ∙ ap (λ a. remainder a M) (sym (difference-mixed k H)))
+
+module _ (s : List ℕ) where
+  -- the outputs over the grid, differenced, give the table of the file
+  pub outputs-table : differencesOf (sizesOf s) (listed (axesOf (sizesOf s)) (outputOf s)) ≡ tableOfFile s
+  unfolding differencesOf tableOfFile outputOf output
+  outputs-table =
+      let M = 2 ^ sizesOf s .m in
+      let us = axesOf (sizesOf s) in
+      table-congruent M (pow-pos (sizesOf s .m)) us (given us (listed us (outputOf s))) (exact (stepsOf s))
+      (λ x b.
+      ap (λ a. remainder a M) (given-listed us (outputOf s) x b)
+      ∙ remainder-pos (outputOf s x) M
+      ∙ mod-eq-of-lt (remainder-lt (exact (stepsOf s) x) M (pow-pos (sizesOf s .m))))
+
+  -- the table of the file, summed, gives the outputs over the grid
+  pub table-sums : sumsOf (sizesOf s) (tableOfFile s) ≡ listed (axesOf (sizesOf s)) (outputOf s)
+  unfolding sumsOf tableOfFile outputOf output
+  table-sums = sumOfTable (2 ^ sizesOf s .m) (pow-pos (sizesOf s .m)) (axesOf (sizesOf s)) (exact (stepsOf s))
+
+  -- a value past a vector's end is 0, as those are that fill it up
+  pub output-held : (v : List ℕ) → outputOf s (held v) ≡ outputOf s v
+  unfolding outputOf output exact
+  output-held v = rw (values-entries (stepsOf s) (held v) v (length (stepsOf s)) (padded v (maxInputs - length v)))
+    where
+      padded : (v : List ℕ) (n i : ℕ) → getD (v ++ replicate n 0) i 0 ≡ getD v i 0
+      padded [] zero i = refl
+      padded [] (suc n) zero = refl
+      padded [] (suc n) (suc i) = padded [] n i
+      padded (x ∷ v) n zero = refl
+      padded (x ∷ v) n (suc i) = padded v n i
+
+-- the sizes and the grid of an accepted file, as the code has them
+module _ (s : List ℕ) (a : Accepted s) (z : Sizes) (ez : z ≡ sizesOf s) (g : Grid) (eg : g ≡ gridOf z) where
+  pub sizes-sound : Sound z
+  unfolding sizesOf
+  sizes-sound =
+      rw ez
+      (record {
+        eight = rw (length-take, length-drop) (omega (arith, a .long));
+        outputLow = a .outputLow;
+        outputHigh = a .outputHigh;
+        inputsHigh = a .inputsHigh;
+      })
+
+  same-size : g .size ≡ gridSize (sizesOf s)
+  unfolding gridOf
+  same-size = ap (λ (g : Grid). g .size) (eg ∙ ap gridOf ez)
+
+  same-axes : take (z .d) (g .axes) ≡ axesOf z
+  same-axes = ap (λ (g : Grid). take (z .d) (g .axes)) eg ∙ grid-axes z sizes-sound
+
+  pub filling :
+      (n : ℕ) (scratch table : List ℕ) → n ≡ stepCount s → stepCount s ≤ length scratch → gridSize (sizesOf s) ≤ length table →
+      Filling s n (g .axes) (z .d) (g .size) scratch table
+  unfolding gridSize
+  filling n scratch table e r h =
+      record {
+        sound = a;
+        steps = e;
+        inputs = ap (λ (z : Sizes). z .d) ez;
+        some = omega (arith, grid-least z sizes-sound, ap gridSize ez, same-size);
+        counted = same-size ∙ ap gridSize (sym ez) ∙ ap size (sym same-axes);
+        room = omega arith;
+        held = omega (arith, same-size);
+      }
+
+  -- the outputs over the grid, differenced in place
+  pub filled :
+      (table outputs out : List ℕ) → outputs ≡ listed (take (z .d) (g .axes)) (outputOf s) ++ drop (g .size) table →
+      out ≡ tableOf (2 ^ z .m) (take (z .d) (g .axes)) (given (take (z .d) (g .axes)) (take (g .size) outputs)) ++ drop (g .size) outputs →
+      out ≡ tableOfFile s ++ drop (gridSize (sizesOf s)) table
+  unfolding gridSize differencesOf
+  filled table outputs out e o =
+      let ys = listed (axesOf z) (outputOf s) in
+      let n : length ys ≡ gridSize z = length-values (λ p. outputOf s (vectorAt (axesOf z) p)) 0 (size (axesOf z)) in
+      in-place z sizes-sound (λ us ys. tableOf (2 ^ z .m) us (given us ys)) g ys table outputs out eg (omega (arith, n))
+      (e ∙ ap (λ l. l ++ drop (g .size) table) (ap (λ us. listed us (outputOf s)) same-axes ∙ sym (take-all (g .size) ys (omega (arith, n, same-size, ap gridSize ez)))))
+      o
+      ∙ ap (λ l. differencesOf z l ++ drop (gridSize z) table) (take-all (gridSize z) ys (omega (arith, n)))
+      ∙ ap (λ (z : Sizes). differencesOf z (listed (axesOf z) (outputOf s)) ++ drop (gridSize z) table) ez
+      ∙ ap (λ l. l ++ drop (gridSize (sizesOf s)) table) (outputs-table s)

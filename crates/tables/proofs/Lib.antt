@@ -1,0 +1,5 @@
+pub mod Answers
+pub mod Copied
+pub mod Demand2
+pub mod Files
+pub mod Grids

@@ -1,0 +1,71 @@
+-- `tables::make_table` meets its contract: a refused call ends before either slice is touched, and an accepted one leaves what `fill_table`
+-- does. Assumes nothing.
+use mathlib.Core.Path.{_≡_, sym, _∙_, ap}
+use denote.Ref.{now}
+use lib.ListN.{length}
+use Rattle.file.proofs.Accepted.{accepted}
+use Rattle.sizes.specs.declared.Refusal.{Refusal}
+use Rattle.tables.specs.Tables.{tableRefusal}
+use Rattle.tables.proofs.Answers.{made, made-refused, table-accepted, scratch-accepted}
+use borrow.Author.Needs.{needs}
+use Rattle.tables.proofs.make_table.Statement.{statement}
+use Rattle.tables.proofs.make_table.Tie as tie
+use Rattle.tables.proofs.make_table.Reads as reads
+use Rattle.tables.proofs.make_table.Lts as lts
+use Rattle.tables.proofs.fill_table.Reads as fill-table-reads
+use Rattle.tables.proofs.table_refusal.Reads as table-refusal-reads
+
+number :
+    (c : tie.After-table-refusal) →
+    let a = c .before .before .before .before .args in
+    c .table-refusal .result .number ≡ tableRefusal (now (a .file)) (length (now (a .scratch))) (length (now (a .table))) .number
+number c = ap (λ (r : Refusal). r .number) (c .table-refusal .ensures)
+
+-- src/lib.rt:210:9
+table-refusal-requires : tie.Need-table-refusal-requires
+table-refusal-requires c κs = search needs
+
+-- src/lib.rt:213:9
+returns : tie.Need-returns
+returns c =
+    let a = c .before .before .before .before .before .args in
+    let w = made-refused (now (a .file)) (now (a .scratch)) (now (a .table)) (λ e. c .if1 .taken (number (c .before) ∙ e)) in
+    (c .before .table-refusal .ensures, w .0, w .1)
+
+-- src/lib.rt:215:5
+fill-table-requires : tie.Need-fill-table-requires
+fill-table-requires c κs =
+    let g = c .before .before in
+    let m = made _ _ _ (sym (number (g .before)) ∙ g .if1 .left) in
+    (accepted _ (m .sound), (m .steps, m .cells))
+
+-- src/lib.rt:207:1
+same-length : tie.Need-same-length
+same-length c = search needs
+
+-- src/lib.rt:207:1
+same-length-2 : tie.Need-same-length-2
+same-length-2 c = search needs
+
+-- src/lib.rt:207:1
+returns-2 : tie.Need-returns-2
+returns-2 c =
+    let a = c .before .before .before .before .before .before .before .before .before .before .before .before .args in
+    let g = c .before .before .before .before .before .before .before in
+    let e = c .before .before .before .before .fill-table .ensures in
+    let n = sym (number (g .before)) ∙ g .if1 .left in (
+      g .before .table-refusal .ensures,
+      e .0 ∙ sym (table-accepted (now (a .file)) (length (now (a .scratch))) (now (a .table)) n),
+      e .1 ∙ sym (scratch-accepted (now (a .file)) (now (a .scratch)) (now (a .table)) n),
+    )
+
+pub make-table-spec : {M : Type 1} → statement M
+make-table-spec =
+    tie.close
+    (tie.spec
+    table-refusal-requires
+    returns
+    fill-table-requires
+    same-length
+    same-length-2
+    returns-2)

@@ -1,0 +1,299 @@
+//! The comparing program, run on files as its users run it.
+//!
+//! CORKBINGO_COMPARE names the program: `NAME FILE1 FILE2` compares two files. Without it these
+//! groups are left out. What is asked of each run is exactly what it prints.
+
+use crate::Group;
+use crate::bench::{Bench, Outcome};
+use crate::faults::{FILE_FAULTS, sound_file};
+use crate::refusals::plain;
+use reference::examples;
+use reference::expression::{Expression, falling, x};
+use reference::file::{STEPS, length};
+use reference::pairs::{self, SAMPLE_A, SAMPLE_B};
+use reference::report::report;
+use reference::sizes::INPUTS;
+use std::env;
+use std::fs;
+use std::os::unix::fs::{MetadataExt, PermissionsExt, symlink};
+use std::os::unix::process::CommandExt;
+use std::path::{Path, PathBuf};
+use std::process::{self, Command, Stdio};
+use std::thread;
+use std::time::{Duration, Instant};
+
+const NAME: &str = "CORKBINGO_COMPARE";
+
+/// The longest time of a run.
+const LIMIT: Duration = Duration::from_secs(60);
+
+/// What document 01 prints for its sample files.
+const SAMPLE_LINES: &str = "grid 2 4 = 8\ndiffer 1 1 : 1 0\nrun 6\n";
+
+pub fn groups() -> Vec<Group> {
+    if env::var_os(NAME).is_none() {
+        return Vec::new();
+    }
+    let mut list: Vec<Group> = vec![
+        ("comparing program: pairs", None, compared),
+        ("comparing program: refusals", None, refused),
+        ("comparing program: unreadable files", None, unreadable),
+        ("comparing program: several calls", None, several_calls),
+    ];
+    let last = "comparing program: forbidden files";
+    if forbids() {
+        list.push((last, None, forbidden));
+    } else {
+        println!("left out {last}: it does not run as a user who may not read everything");
+    }
+    list
+}
+
+/// The program, by a path that holds in every folder.
+fn program() -> Outcome<PathBuf> {
+    let name = env::var_os(NAME).unwrap_or_default();
+    fs::canonicalize(&name).map_err(|error| format!("{NAME}, {name:?}: {error}"))
+}
+
+/// A new folder for files, removed at the end.
+struct Folder(PathBuf);
+
+impl Folder {
+    fn new(name: &str) -> Outcome<Folder> {
+        let name = format!("corkbingo-{name}-{}", process::id());
+        let path = env::temp_dir().join(name);
+        done(fs::create_dir(&path))?;
+        Ok(Folder(path))
+    }
+
+    fn write(&self, name: &str, content: &[u8]) -> Outcome<PathBuf> {
+        let path = self.0.join(name);
+        done(fs::write(&path, content))?;
+        Ok(path)
+    }
+}
+
+impl Drop for Folder {
+    fn drop(&mut self) {
+        // A folder that stays behind harms no test.
+        let _ = fs::remove_dir_all(&self.0);
+    }
+}
+
+fn done<T>(result: std::io::Result<T>) -> Outcome<T> {
+    result.map_err(|error| error.to_string())
+}
+
+/// What a run prints. A run that does not end in time is ended.
+fn printed(command: &mut Command) -> Outcome<String> {
+    let command = command.stdin(Stdio::null()).stderr(Stdio::null());
+    let mut child = done(command.stdout(Stdio::piped()).spawn())?;
+    let end = Instant::now() + LIMIT;
+    while done(child.try_wait())?.is_none() {
+        if Instant::now() > end {
+            done(child.kill())?;
+            done(child.wait())?;
+            return Err(format!("no end after {} seconds", LIMIT.as_secs()));
+        }
+        thread::sleep(Duration::from_millis(1));
+    }
+    let output = done(child.wait_with_output())?;
+    if output.status.code().is_none() {
+        return Err(format!("the program ended by {}", output.status));
+    }
+    String::from_utf8(output.stdout).map_err(|error| error.to_string())
+}
+
+/// Runs the program on two names.
+fn run(names: [&Path; 2]) -> Outcome<String> {
+    printed(Command::new(program()?).args(names))
+}
+
+/// Runs the program on two files with these contents and asks for these lines.
+fn prints(bench: &mut Bench, folder: &Folder, files: [&[u8]; 2], lines: &str) -> Outcome {
+    let first = folder.write("first.dp", files[0])?;
+    let second = folder.write("second.dp", files[1])?;
+    let found = run([&first, &second])?;
+    bench.same(found.as_str(), lines, || {
+        format!("files of {} and {} bytes", files[0].len(), files[1].len())
+    })
+}
+
+/// The same, with the reference's lines.
+fn agrees(bench: &mut Bench, folder: &Folder, files: [&[u8]; 2]) -> Outcome {
+    prints(bench, folder, files, &report(files))
+}
+
+/// Document 01's lines; all pairs of both documents; other names and folders.
+fn compared(bench: &mut Bench) -> Outcome {
+    let folder = Folder::new("pairs")?;
+    prints(bench, &folder, [&SAMPLE_A, &SAMPLE_B], SAMPLE_LINES)?;
+    let swapped = "grid 2 4 = 8\ndiffer 1 1 : 0 1\nrun 6\n";
+    prints(bench, &folder, [&SAMPLE_B, &SAMPLE_A], swapped)?;
+    let same = "grid 2 4 = 8\nequivalent\nrun 8\n";
+    prints(bench, &folder, [&SAMPLE_A, &SAMPLE_A], same)?;
+    for pair in pairs::pairs().iter().chain(&examples::pairs()) {
+        agrees(bench, &folder, pair.files.each_ref().map(Vec::as_slice))?;
+    }
+    let top = u64::MAX;
+    let wide = (x(1) - 1).file(64, &[64]);
+    let lines = format!("grid 66 = 66\ndiffer 0 : {top} 0\nrun 1\n");
+    prints(bench, &folder, [&wide, &x(1).file(64, &[64])], &lines)?;
+    let largest = plain(1, &[1; INPUTS], STEPS);
+    let lines = "grid 2 2 2 2 2 2 2 2 = 256\nequivalent\nrun 256\n";
+    prints(bench, &folder, [&largest, &largest], lines)?;
+
+    folder.write("a.dp", &SAMPLE_A)?;
+    folder.write("b.dp", &SAMPLE_B)?;
+    folder.write("a name with  spaces", &SAMPLE_A)?;
+    done(symlink("b.dp", folder.0.join("link")))?;
+    let inner = folder.0.join("inner");
+    done(fs::create_dir(&inner))?;
+    for (at, names) in [
+        (&folder.0, ["a.dp", "b.dp"]),
+        (&folder.0, ["./a.dp", "inner/../b.dp"]),
+        (&folder.0, ["a name with  spaces", "link"]),
+        (&inner, ["../a.dp", "../link"]),
+    ] {
+        let found = printed(Command::new(program()?).args(names).current_dir(at))?;
+        bench.same(found.as_str(), SAMPLE_LINES, || format!("{names:?}"))?;
+    }
+    Ok(())
+}
+
+/// Every number, in either file; files of the greatest length and past it.
+fn refused(bench: &mut Bench) -> Outcome {
+    let folder = Folder::new("refusals")?;
+    let sound = sound_file();
+    for fault in &FILE_FAULTS {
+        let mut bad = sound.clone();
+        (fault.make)(&mut bad);
+        let line = |file| format!("refused {} {file} {}\n", fault.number, fault.step);
+        prints(bench, &folder, [&bad, &sound], &line(1))?;
+        prints(bench, &folder, [&sound, &bad], &line(2))?;
+        prints(bench, &folder, [&bad, &bad], &line(1))?;
+        agrees(bench, &folder, [&bad, &SAMPLE_A])?;
+    }
+    prints(bench, &folder, [&sound, &SAMPLE_A], "refused 9 0 0\n")?;
+    prints(bench, &folder, [&[], &[]], "refused 1 1 0\n")?;
+    prints(bench, &folder, [&sound, &[]], "refused 1 2 0\n")?;
+    let largest = plain(8, &[8], STEPS);
+    for extra in [1, 2, 9, 3_000, 60_000, 2_000_000] {
+        let mut longer = largest.clone();
+        longer.resize(length(STEPS) + extra, 1);
+        prints(bench, &folder, [&longer, &largest], "refused 6 1 0\n")?;
+        prints(bench, &folder, [&largest, &longer], "refused 6 2 0\n")?;
+        longer[0] = 0;
+        prints(bench, &folder, [&longer, &largest], "refused 2 1 0\n")?;
+    }
+    let mut last = largest.clone();
+    last[length(STEPS) - 1] = 1;
+    let line = format!("refused 8 2 {}\n", STEPS - 1);
+    prints(bench, &folder, [&largest, &last], &line)
+}
+
+/// Missing files, folders, and a file whose reading fails count as empty.
+fn unreadable(bench: &mut Bench) -> Outcome {
+    let folder = Folder::new("unreadable")?;
+    let sound = folder.write("sound.dp", &SAMPLE_A)?;
+    let missing = folder.0.join("missing.dp");
+    let below = sound.join("below");
+    let dangling = folder.0.join("dangling");
+    done(symlink("missing.dp", &dangling))?;
+    let failing = PathBuf::from("/proc/self/mem");
+    for path in [&missing, &below, &dangling, &folder.0, &failing] {
+        bench.same(&fs::read(path).is_err(), &true, || {
+            format!("{} can be read", path.display())
+        })?;
+        for (names, line) in [
+            ([path, &sound], "refused 1 1 0\n"),
+            ([&sound, path], "refused 1 2 0\n"),
+            ([path, path], "refused 1 1 0\n"),
+        ] {
+            let found = run(names.map(PathBuf::as_path))?;
+            bench.same(found.as_str(), line, || format!("{names:?}"))?;
+        }
+    }
+    let again = run([&sound, &sound])?;
+    bench.same(again.as_str(), "grid 2 4 = 8\nequivalent\nrun 8\n", || {
+        String::from("a sound file after unreadable ones")
+    })
+}
+
+/// The program as run by a user who may not read everything: nobody in the place of root.
+fn command() -> Outcome<Command> {
+    let mut command = Command::new(program()?);
+    if is_root() {
+        command.uid(65_534).gid(65_534);
+    }
+    Ok(command)
+}
+
+fn is_root() -> bool {
+    fs::metadata("/proc/self").is_ok_and(|own| own.uid() == 0)
+}
+
+/// Whether the program runs as a user who may not read everything.
+fn forbids() -> bool {
+    let sample = || {
+        let folder = Folder::new("forbids")?;
+        let first = folder.write("a.dp", &SAMPLE_A)?;
+        let second = folder.write("b.dp", &SAMPLE_B)?;
+        printed(command()?.args([first, second]))
+    };
+    sample() == Ok(String::from(SAMPLE_LINES))
+}
+
+/// A file without permission to read it counts as empty.
+fn forbidden(bench: &mut Bench) -> Outcome {
+    let folder = Folder::new("forbidden")?;
+    let sound = folder.write("sound.dp", &SAMPLE_A)?;
+    let shut = folder.write("shut.dp", &SAMPLE_B)?;
+    done(fs::set_permissions(
+        &shut,
+        fs::Permissions::from_mode(0o000),
+    ))?;
+    for (names, line) in [
+        ([&shut, &sound], "refused 1 1 0\n"),
+        ([&sound, &shut], "refused 1 2 0\n"),
+    ] {
+        let found = printed(command()?.args(names))?;
+        bench.same(found.as_str(), line, || format!("{names:?}"))?;
+    }
+    Ok(())
+}
+
+/// Grids of 1,000,000 vectors and more.
+fn several_calls(bench: &mut Bench) -> Outcome {
+    let folder = Folder::new("calls")?;
+    let mut pair = |m, widths: &[u64], sides: [Expression; 2], lines: &str| {
+        let files = sides.map(|side| side.file(m, widths));
+        prints(bench, &folder, files.each_ref().map(Vec::as_slice), lines)
+    };
+    let million = "grid 10 10 10 10 10 10 = 1000000\nequivalent\nrun 1000000\n";
+    pair(8, &[8; 6], [x(6), x(6)], million)?;
+    let more = "grid 18 18 18 18 18 = 1889568\nequivalent\nrun 1889568\n";
+    let sides = [x(1) * x(5) + x(2), x(2) + x(5) * x(1)];
+    pair(16, &[16; 5], sides, more)?;
+    // Falling factorials whose product first counts at the vector of their degrees: places 999,999
+    // and 1,000,000 of the 1,048,576 of eight inputs of 3 and 2 bits.
+    let widths = [3, 3, 3, 3, 2, 2, 2, 2];
+    for (degrees, run) in [
+        ([7, 5, 0, 2, 0, 3, 3, 3], 1_000_000),
+        ([7, 5, 0, 2, 1, 0, 0, 0], 1_000_001),
+    ] {
+        let factor = |(index, &k): (usize, &i32)| falling(x(index + 1), k);
+        let factors = degrees.iter().enumerate().filter(|(_, k)| **k > 0);
+        let product = factors.map(factor).reduce(|left, right| left * right);
+        let product = product.ok_or("no degrees")?;
+        let factorials: u64 = degrees
+            .map(|k| (1..=k as u64).product::<u64>())
+            .iter()
+            .product();
+        let vector = degrees.map(|k| k.to_string()).join(" ");
+        let grid = "grid 8 8 8 8 4 4 4 4 = 1048576";
+        let lines = format!("{grid}\ndiffer {vector} : {factorials} 0\nrun {run}\n");
+        pair(64, &widths, [product, 0.into()], &lines)?;
+    }
+    Ok(())
+}

@@ -1,0 +1,100 @@
+//! Every position and mark on small grids, and every field of a session.
+
+use super::bench::scratch;
+use crate::bench::{Bench, Outcome};
+use reference::file::{Datapath, Step, read, write};
+use reference::grid::{axes, size, vectors};
+use reference::pairs::{SAMPLE_A, SAMPLE_B, pairs};
+use reference::sessions::{MARK, MARKS, POSITION, REFUSED, SESSION};
+use reference::sizes::Sizes;
+use reference::twins::late;
+
+/// Positions on the grid, at its end and far past it.
+fn positions(count: u64) -> Vec<u64> {
+    let far = [1 << 32, 1 << 63, u64::MAX - count, u64::MAX - 1, u64::MAX];
+    (0..=count + 2).chain(far).collect()
+}
+
+/// Budgets around the end of the grid, and such that position plus budget passes 2^64.
+fn budgets(count: u64, position: u64) -> Vec<u64> {
+    let left = count.saturating_sub(position);
+    let mut list = vec![0, 1, 2, 3, left / 2, count, u64::MAX - 1, u64::MAX, 1 << 63];
+    list.extend([left.saturating_sub(1), left, left + 1]);
+    list.extend([u64::MAX - position, (u64::MAX - position).saturating_add(1)]);
+    list.sort_unstable();
+    list.dedup();
+    list
+}
+
+/// The pairs of document 01, and one pair that first differs at each place in turn.
+fn files() -> Vec<[Vec<u8>; 2]> {
+    let mut list: Vec<[Vec<u8>; 2]> = pairs().into_iter().map(|pair| pair.files).collect();
+    let sizes = Sizes {
+        m: 20,
+        widths: vec![1, 2, 1],
+    };
+    let grid = axes(&sizes);
+    let path = Datapath {
+        sizes,
+        steps: vec![Step::Input(1)],
+    };
+    for vector in vectors(&grid) {
+        list.push([write(&path), write(&late(&path, &vector))]);
+    }
+    list
+}
+
+pub fn places(bench: &mut Bench) -> Outcome {
+    for pair in files() {
+        let files = pair.each_ref().map(Vec::as_slice);
+        let start = bench.start(files)?;
+        let path = read(files[0], 1).map_err(|refusal| format!("{refusal:?}"))?;
+        let count = size(&axes(&path.sizes));
+        for mark in MARKS {
+            for position in positions(count) {
+                for budget in budgets(count, position) {
+                    let mut session = start;
+                    session[POSITION] = position;
+                    session[MARK] = mark as u64;
+                    bench.answered(files, &session, budget, &scratch(64))?;
+                }
+            }
+        }
+    }
+    Ok(())
+}
+
+/// Each word of a session at every byte and at numbers that are no bytes.
+pub fn fields(bench: &mut Bench) -> Outcome {
+    let files = [&SAMPLE_A[..], &SAMPLE_B];
+    let start = bench.start(files)?;
+    let wide = [256, 257, 1 << 32, (1 << 32) + 2, 1 << 63, u64::MAX];
+    for index in 0..SESSION {
+        for word in (0..=255).chain(wide) {
+            for (position, mark) in [(0, 0), (3, 0), (8, 1), (6, 2), (9, 0)] {
+                let mut session = start;
+                session[POSITION] = position;
+                session[MARK] = mark;
+                session[index] = word;
+                let done = bench.continued(files, &session, 2, &scratch(3))?;
+                let fits = match index {
+                    POSITION => true,
+                    MARK => word <= 2,
+                    _ => word <= 255,
+                };
+                bench.same(&done.is_some(), &fits, || {
+                    format!("word {index} of a session is {word}")
+                })?;
+                if let Some(done) = done.filter(|_| index < POSITION && word != start[index]) {
+                    bench.same(&done.answer[..4], &[101, 0, 0, REFUSED], || {
+                        format!("word {index} of a session is {word}")
+                    })?;
+                }
+                bench.continued(files, &session, 0, &scratch(3))?;
+                bench.continued(files, &session, 2, &scratch(2))?;
+                bench.continued([files[0], &[]], &session, 2, &scratch(3))?;
+            }
+        }
+    }
+    Ok(())
+}

@@ -1,0 +1,161 @@
+//! Refusals of open and continue, by number, file and step.
+
+use super::Files;
+use super::bench::scratch;
+use crate::bench::{Bench, Outcome};
+use crate::faults::{
+    FILE_FAULTS, Fault, FileFault, STEPS, WIDTHS, of_file, sound_file, subsets as sets,
+};
+use crate::refusals::plain;
+use reference::file::read;
+use reference::pairs::{SAMPLE_A, SAMPLE_B};
+use reference::sessions::{MARK, POSITION, SESSION};
+use reference::sizes::{INPUTS, Sizes};
+
+/// G of the sound file.
+const GRID: u64 = 80;
+
+/// What a continue call is given; an opening takes the files of it.
+struct Call {
+    files: [Vec<u8>; 2],
+    session: [u64; SESSION],
+    budget: u64,
+    scratch: usize,
+}
+
+fn sound() -> Call {
+    let sizes = Sizes {
+        m: 8,
+        widths: WIDTHS.to_vec(),
+    };
+    let mut session = [0; SESSION];
+    session[..POSITION].copy_from_slice(&sizes.numbers());
+    Call {
+        files: [sound_file(), sound_file()],
+        session,
+        budget: 1,
+        scratch: STEPS,
+    }
+}
+
+/// Faults in the order of a continue call. The number 102 is made to hold under every mark.
+fn faults() -> Vec<Fault<Call>> {
+    let chosen = [(2, 0), (6, 0), (7, 0), (8, 4)];
+    let among = |fault: &FileFault| chosen.contains(&(fault.number, fault.step));
+    let mut list: Vec<Fault<Call>> = vec![([11, 0, 0], Box::new(|call| call.budget = 0))];
+    list.extend(of_file(1, among, |call: &mut Call| &mut call.files[0]));
+    list.extend(of_file(2, among, |call: &mut Call| &mut call.files[1]));
+    list.push(([9, 0, 0], Box::new(|call| call.files[1][5] = 4)));
+    list.push(([12, 0, 0], Box::new(|call| call.scratch -= 1)));
+    list.push(([101, 0, 0], Box::new(|call| call.session[9] = 1)));
+    list.push((
+        [102, 0, 0],
+        Box::new(|call| call.session[POSITION] = GRID + 1),
+    ));
+    list.push((
+        [103, 0, 0],
+        Box::new(|call| {
+            call.session[MARK] = 1;
+            call.session[POSITION] = GRID;
+        }),
+    ));
+    list
+}
+
+/// Every set of fourteen faults, in continue and in open.
+pub fn subsets(bench: &mut Bench) -> Outcome {
+    for (call, refusal) in sets(&faults(), sound) {
+        let files = call.files.each_ref().map(Vec::as_slice);
+        let done = bench.answered(files, &call.session, call.budget, &scratch(call.scratch))?;
+        bench.same(&done.answer[..3], &refusal, || {
+            String::from("the first fault of continue")
+        })?;
+        let opened = bench.open(files)?;
+        if (1..=9).contains(&refusal[0]) {
+            bench.same(&opened.answer, &refusal, || {
+                String::from("the first fault of open")
+            })?;
+        }
+    }
+    Ok(())
+}
+
+/// Opens and continues with files that are to be refused so.
+fn refuses(bench: &mut Bench, files: Files, expected: [u64; 3]) -> Outcome {
+    let opened = bench.open(files)?;
+    bench.same(&opened.answer, &expected, || String::from("open"))?;
+    let zeros = [0; SESSION];
+    bench.same(&opened.session, &zeros, || {
+        String::from("a refused opening")
+    })?;
+    for session in [zeros, sound().session] {
+        let done = bench.answered(files, &session, 1, &scratch(1030))?;
+        bench.same(&done.answer[..3], &expected, || String::from("continue"))?;
+    }
+    Ok(())
+}
+
+/// Each fault of a file in file 1, in file 2 and in both, and other files beside it.
+pub fn opening(bench: &mut Bench) -> Outcome {
+    let sound = sound_file();
+    let other = plain(7, &[5, 6, 7], 4);
+    for fault in &FILE_FAULTS {
+        let mut bad = sound.clone();
+        (fault.make)(&mut bad);
+        let refusal = |file| [fault.number, file, fault.step];
+        refuses(bench, [&bad, &sound], refusal(1))?;
+        refuses(bench, [&sound, &bad], refusal(2))?;
+        refuses(bench, [&bad, &other], refusal(1))?;
+        refuses(bench, [&other, &bad], refusal(2))?;
+        for second in &FILE_FAULTS {
+            let mut worse = sound.clone();
+            (second.make)(&mut worse);
+            refuses(bench, [&bad, &worse], refusal(1))?;
+        }
+    }
+    refuses(bench, [&[], &[]], [1, 1, 0])?;
+    refuses(bench, [&sound, &[]], [1, 2, 0])?;
+    let samples: Files = [&SAMPLE_A, &SAMPLE_B];
+    let session = bench.start(samples)?;
+    let expected = [2, 2, 1, 2, 0, 0, 0, 0, 0, 0, 0, 0];
+    bench.same(&session, &expected, || String::from("open of the samples"))
+}
+
+/// Number 9 by m, by d and by each word length; and pairs of all sizes opened.
+pub fn sizes(bench: &mut Bench) -> Outcome {
+    for d in 1..=INPUTS {
+        let widths = vec![9; d];
+        let file = plain(8, &widths, 3);
+        refuses(bench, [&file, &plain(9, &widths, 3)], [9, 0, 0])?;
+        refuses(bench, [&plain(7, &widths, 1), &file], [9, 0, 0])?;
+        let mut longer = widths.clone();
+        longer.push(9);
+        if d < INPUTS {
+            refuses(bench, [&file, &plain(8, &longer, 3)], [9, 0, 0])?;
+            refuses(bench, [&plain(8, &longer, 3), &file], [9, 0, 0])?;
+        }
+        for input in 0..d {
+            for width in [8, 10, 64] {
+                let mut others = widths.clone();
+                others[input] = width;
+                refuses(bench, [&file, &plain(8, &others, 3)], [9, 0, 0])?;
+            }
+        }
+        for m in 1..=64 {
+            let files = [plain(m, &widths, 1), plain(m, &widths, 6)];
+            let files = files.each_ref().map(Vec::as_slice);
+            let session = bench.start(files)?;
+            let path = read(files[0], 1).map_err(|refusal| format!("{refusal:?}"))?;
+            bench.same(&session[..POSITION], &path.sizes.numbers(), || {
+                String::from("the sizes of an opened session")
+            })?;
+            for (length, refusal) in [(0, 12), (1, 12), (5, 12), (6, 0), (7, 0)] {
+                let done = bench.answered(files, &session, 1, &scratch(length))?;
+                bench.same(&done.answer[..3], &[refusal, 0, 0], || {
+                    format!("the larger N is 6, the scratch slice {length} long")
+                })?;
+            }
+        }
+    }
+    Ok(())
+}

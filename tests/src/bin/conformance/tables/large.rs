@@ -1,0 +1,99 @@
+//! Tables of a few hundred thousand cells: every cell against the reference's way input by input,
+//! and some against the closed forms.
+
+use crate::bench::{Bench, Outcome};
+use reference::expression::{Expression, x};
+use reference::file::{Datapath, Step, read, write};
+use reference::grid::{axes, place_of, size, vectors};
+use reference::newton::{difference_at, sum_at};
+use reference::random::Random;
+use reference::samples::top;
+use reference::sizes::Sizes;
+use reference::tables::outputs;
+use reference::twins::late;
+
+pub const SEED: u64 = 0x1a26_e5ee_d000;
+
+/// Closed forms are worked out at so many places of a table.
+const SPOTS: usize = 8;
+
+/// A vector with few terms in its closed form: entries are halved until there are few.
+fn spot(random: &mut Random, axes: &[u64]) -> Vec<u64> {
+    let mut vector: Vec<u64> = axes.iter().map(|&axis| random.below(axis)).collect();
+    while vector.iter().map(|entry| entry + 1).product::<u64>() > 60_000 {
+        let input = random.index(vector.len());
+        vector[input] /= 2;
+    }
+    vector
+}
+
+pub fn tables(bench: &mut Bench) -> Outcome {
+    let mut random = Random::new(SEED);
+    let list: [(u64, &[u64]); 3] = [
+        (64, &[64, 64, 64]),
+        (4, &[4; 7]),
+        (61, &[6, 64, 1, 1, 1, 1, 1, 1]),
+    ];
+    for (m, widths) in list {
+        let sizes = Sizes {
+            m,
+            widths: widths.to_vec(),
+        };
+        let axes = axes(&sizes);
+        let cells: Vec<u64> = (0..size(&axes)).map(|_| random.word() & top(m)).collect();
+        let table = bench.differences(&sizes, &cells)?;
+        let values = bench.sums(&sizes, &cells)?;
+        for _ in 0..SPOTS {
+            let at = spot(&mut random, &axes);
+            let place = place_of(&axes, &at) as usize;
+            let closed = difference_at(m, &axes, &cells, &at);
+            bench.same(&table[place], &closed, || {
+                format!("difference at {at:?}, {sizes:?}")
+            })?;
+            let closed = sum_at(m, &axes, &cells, &at);
+            bench.same(&values[place], &closed, || {
+                format!("sum at {at:?}, {sizes:?}")
+            })?;
+        }
+        let summed = bench.sums(&sizes, &table)?;
+        bench.cells(&summed, &cells, || format!("sum of differences, {sizes:?}"))?;
+        let differenced = bench.differences(&sizes, &values)?;
+        bench.cells(&differenced, &cells, || {
+            format!("differences of sums, {sizes:?}")
+        })?;
+    }
+    Ok(())
+}
+
+/// A product of falling factorials has one cell that is not 0: at its degrees, the product of their
+/// factorials. A sum of inputs has the outputs' closed form at hand.
+pub fn files(bench: &mut Bench) -> Outcome {
+    let sizes = Sizes {
+        m: 64,
+        widths: vec![64; 3],
+    };
+    let grid = axes(&sizes);
+    let degrees = [5, 11, 3];
+    let zero = Datapath {
+        sizes: sizes.clone(),
+        steps: vec![Step::Constant(0)],
+    };
+    let table = bench.table_of(&write(&late(&zero, &degrees)), size(&grid) as usize)?;
+    let mut expected = vec![0; table.len()];
+    let factorials = degrees.map(|k| (1..=k).product::<u64>());
+    expected[place_of(&grid, &degrees) as usize] = factorials.iter().product();
+    bench.cells(&table, &expected, || String::from("falling factorials"))?;
+
+    let polynomial: Expression = 3 * x(1) * x(2) * x(3) - x(4) + 5;
+    let file = polynomial.file(16, &[16; 4]);
+    let path = read(&file, 1).map_err(|refusal| format!("{refusal:?}"))?;
+    let grid = axes(&path.sizes);
+    let table = bench.table_of(&file, size(&grid) as usize)?;
+    let summed = bench.sums(&path.sizes, &table)?;
+    bench.cells(&summed, &outputs(&path), || String::from("sum of a table"))?;
+    for (vector, &output) in vectors(&grid).zip(&summed) {
+        let integer = polynomial.at(&vector).rem_euclid(1 << 16) as u64;
+        bench.same(&output, &integer, || format!("output at {vector:?}"))?;
+    }
+    Ok(())
+}

@@ -1,2 +1,4 @@
+pub mod SessionWords
+pub mod SizeWords
 pub mod TableWords
 pub mod Words

@@ -22,6 +22,8 @@ ghost use Rattle.exports.specs.Words.{
   evaluateScratch,
 };
 
+mod session_calls;
+mod size_words;
 mod table_calls;
 
 // The words are copied into a slice of the same length.

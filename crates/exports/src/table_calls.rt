@@ -1,11 +1,11 @@
 // The calls on difference tables. Sizes are ten words, m, d and n1 to n8: where they have another length, or a word does not fit a byte, the
 // call returns 0, with nothing touched.
 use crate::copy_words;
-use sizes::Sizes;
+use crate::size_words::sizes_from;
+use crate::size_words::ten_bytes;
 use tables::difference;
 use tables::make_table;
 use tables::sum;
-ghost use mathlib.Core.Bool.{true};
 ghost use mathlib.Core.Path.{_≡_};
 ghost use lib.ListN.{length};
 ghost use Rattle.tables.specs.Tables.{
@@ -16,11 +16,10 @@ ghost use Rattle.tables.specs.Tables.{
   differenced,
   summedUp,
 };
+ghost use Rattle.exports.specs.SizeWords.{sizesFrom};
 ghost use Rattle.exports.specs.TableWords.{
   threeWords,
-  tenBytes,
   laidOut,
-  sizesFrom,
   returned,
   leaves,
 };
@@ -35,7 +34,7 @@ pub extern "C" fn corkbingo_table(
     table: &mut [u64],
     out: &mut [u64],
 ) -> u32
-    ensures { λ r. ⌜ (r ≡ returned (threeWords (now (out .entry)))) × (now (out .exit) ≡ leaves (threeWords (now (out .entry))) (refusalWords (tableRefusal (now (file .entry)) (length (now (scratch .entry))) (length (now (table .entry))))) (now (out .entry))) × (now (table .exit) ≡ leaves (threeWords (now (out .entry))) (madeTable (now (file .entry)) (length (now (scratch .entry))) (now (table .entry))) (now (table .entry))) × (now (scratch .exit) ≡ leaves (threeWords (now (out .entry))) (tableScratch (now (file .entry)) (now (scratch .entry)) (length (now (table .entry)))) (now (scratch .entry))) ⌝ }
+    ensures { λ r. ⌜ (r ≡ returned (threeWords (length (now (out .entry))))) × (now (out .exit) ≡ leaves (threeWords (length (now (out .entry)))) (refusalWords (tableRefusal (now (file .entry)) (length (now (scratch .entry))) (length (now (table .entry))))) (now (out .entry))) × (now (table .exit) ≡ leaves (threeWords (length (now (out .entry)))) (madeTable (now (file .entry)) (length (now (scratch .entry))) (now (table .entry))) (now (table .entry))) × (now (scratch .exit) ≡ leaves (threeWords (length (now (out .entry)))) (tableScratch (now (file .entry)) (now (scratch .entry)) (length (now (table .entry)))) (now (scratch .entry))) ⌝ }
 {
     if out.len() != 3 {
         return 0;
@@ -45,42 +44,17 @@ pub extern "C" fn corkbingo_table(
     1
 }
 
-// Whether there are ten words, and each fits a byte.
-fn ten_bytes(words: &[u64]) -> bool
-    ensures { λ r. ⌜ r ≡ tenBytes (now (words .entry)) ⌝ }
+// Whether a call with these sizes and an answer slice of `len` entries is laid out right.
+fn laid_out(sizes: &[u64], len: usize) -> bool
+    ensures { λ r. ⌜ r ≡ laidOut (now (sizes .entry)) len ⌝ }
 {
-    if words.len() != 10 {
+    if len != 3 {
         return false;
     }
-    let mut i = 0;
-    while i < 10 {
-        if 256 <= words[i] {
-            return false;
-        }
-        i += 1;
+    if sizes.len() != 10 {
+        return false;
     }
-    true
-}
-
-// The sizes in ten words.
-fn sizes_from(words: &[u64]) -> Sizes
-    requires { ⌜ tenBytes (now words) ≡ true ⌝ }
-    ensures { λ r. ⌜ r ≡ sizesFrom (now (words .entry)) ⌝ }
-{
-    Sizes {
-        m: words[0] as u8,
-        d: words[1] as u8,
-        widths: [
-            words[2] as u8,
-            words[3] as u8,
-            words[4] as u8,
-            words[5] as u8,
-            words[6] as u8,
-            words[7] as u8,
-            words[8] as u8,
-            words[9] as u8,
-        ],
-    }
+    ten_bytes(sizes)
 }
 
 // The table of given outputs: out has 3 words and gets the refusal. Where the call is accepted, the first G table entries become the table;
@@ -92,12 +66,9 @@ pub extern "C" fn corkbingo_difference(
     table: &mut [u64],
     out: &mut [u64],
 ) -> u32
-    ensures { λ r. ⌜ (r ≡ returned (laidOut (now (sizes .entry)) (now (out .entry)))) × (now (out .exit) ≡ leaves (laidOut (now (sizes .entry)) (now (out .entry))) (refusalWords (cellsRefusal (sizesFrom (now (sizes .entry))) (now (outputs .entry)) (length (now (table .entry))))) (now (out .entry))) × (now (table .exit) ≡ leaves (laidOut (now (sizes .entry)) (now (out .entry))) (differenced (sizesFrom (now (sizes .entry))) (now (outputs .entry)) (now (table .entry))) (now (table .entry))) ⌝ }
+    ensures { λ r. ⌜ (r ≡ returned (laidOut (now (sizes .entry)) (length (now (out .entry))))) × (now (out .exit) ≡ leaves (laidOut (now (sizes .entry)) (length (now (out .entry)))) (refusalWords (cellsRefusal (sizesFrom (now (sizes .entry))) (now (outputs .entry)) (length (now (table .entry))))) (now (out .entry))) × (now (table .exit) ≡ leaves (laidOut (now (sizes .entry)) (length (now (out .entry)))) (differenced (sizesFrom (now (sizes .entry))) (now (outputs .entry)) (now (table .entry))) (now (table .entry))) ⌝ }
 {
-    if out.len() != 3 {
-        return 0;
-    }
-    if !ten_bytes(sizes) {
+    if !laid_out(sizes, out.len()) {
         return 0;
     }
     let r = difference(sizes_from(sizes), outputs, table);
@@ -114,12 +85,9 @@ pub extern "C" fn corkbingo_sum(
     outputs: &mut [u64],
     out: &mut [u64],
 ) -> u32
-    ensures { λ r. ⌜ (r ≡ returned (laidOut (now (sizes .entry)) (now (out .entry)))) × (now (out .exit) ≡ leaves (laidOut (now (sizes .entry)) (now (out .entry))) (refusalWords (cellsRefusal (sizesFrom (now (sizes .entry))) (now (table .entry)) (length (now (outputs .entry))))) (now (out .entry))) × (now (outputs .exit) ≡ leaves (laidOut (now (sizes .entry)) (now (out .entry))) (summedUp (sizesFrom (now (sizes .entry))) (now (table .entry)) (now (outputs .entry))) (now (outputs .entry))) ⌝ }
+    ensures { λ r. ⌜ (r ≡ returned (laidOut (now (sizes .entry)) (length (now (out .entry))))) × (now (out .exit) ≡ leaves (laidOut (now (sizes .entry)) (length (now (out .entry)))) (refusalWords (cellsRefusal (sizesFrom (now (sizes .entry))) (now (table .entry)) (length (now (outputs .entry))))) (now (out .entry))) × (now (outputs .exit) ≡ leaves (laidOut (now (sizes .entry)) (length (now (out .entry)))) (summedUp (sizesFrom (now (sizes .entry))) (now (table .entry)) (now (outputs .entry))) (now (outputs .entry))) ⌝ }
 {
-    if out.len() != 3 {
-        return 0;
-    }
-    if !ten_bytes(sizes) {
+    if !laid_out(sizes, out.len()) {
         return 0;
     }
     let r = sum(sizes_from(sizes), table, outputs);

@@ -42,9 +42,12 @@ module _ (s₁ s₂ : List ℕ) where
       unfolding pairRefusal
       pair-0 e =
           let a = accepted s₁ e₁ in
-          rw
-          (eq-eqb (fileNumber s₁) 0 e₁, eq-eqb (fileNumber s₂) 0 e₂, e,
-          never-large (sizesOf s₁) (a .outputLow) (a .outputHigh) (a .inputsHigh))
+          rw (
+            eq-eqb (fileNumber s₁) 0 e₁,
+            eq-eqb (fileNumber s₂) 0 e₂,
+            e,
+            never-large (sizesOf s₁) (a .outputLow) (a .outputHigh) (a .inputsHigh),
+          )
 
 -- sizes with eight word lengths that pass the test are equal
 same-equal : (z w : Sizes) → length (z .widths) ≡ maxInputs → length (w .widths) ≡ maxInputs → sameSizes z w ≡ true → z ≡ w
@@ -53,8 +56,8 @@ same-equal z w lz lw e =
     let p = and-eq-true-iff _ _ .0 e in
     let q = and-eq-true-iff _ _ .0 (p .0) in
     let widths : z .widths ≡ w .widths =
-          ext-getD 0 (z .widths) (w .widths) (lz ∙ sym lw)
-          (λ i h. eqb-true _ _ (every-at _ 0 maxInputs i (p .1) (omega arith) (omega arith))) in
+    ext-getD 0 (z .widths) (w .widths) (lz ∙ sym lw)
+    (λ i h. eqb-true _ _ (every-at _ 0 maxInputs i (p .1) (omega arith) (omega arith))) in
     λ i. record { m = eqb-true (z .m) (w .m) (q .0) i; d = eqb-true (z .d) (w .d) (q .1) i; widths = widths i }
 
 eight-widths : (s : List ℕ) → Accepted s → length (sizesOf s .widths) ≡ maxInputs

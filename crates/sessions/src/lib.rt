@@ -1,10 +1,14 @@
 // Sessions: opening one on two files, and continuing it under a budget.
 use engine::first_difference;
-use evaluate::{clear, output_at};
+use evaluate::clear;
+use evaluate::output_at;
 use file::check_as;
-use file::fields::{read_sizes, step_count};
+use file::fields::read_sizes;
+use file::fields::step_count;
 use grid::grid_of;
-use sizes::{Refusal, Sizes, refused_by};
+use sizes::Refusal;
+use sizes::Sizes;
+use sizes::refused_by;
 use vectors::vector_at;
 ghost use mathlib.Core.Path.{_≡_};
 ghost use Prim.Native.Nat.{_≤_, _<_, min, max};
@@ -14,8 +18,22 @@ ghost use Rattle.file.specs.File.{sizesOf};
 ghost use Rattle.grid.specs.Grid.{axesOf, gridSize};
 ghost use Rattle.places.specs.Places.{vectorAt};
 ghost use Rattle.sessions.specs.Session.{
-    sameSizes, pairRefusal, noSession, opened, misplaced, isClosed, stateRefusal, continueRefusal, refusedAnswer,
-    plainAnswer, differsAnswer, movedTo, advanced, continued, scratchAfter};
+  sameSizes,
+  pairRefusal,
+  noSession,
+  opened,
+  misplaced,
+  isClosed,
+  stateRefusal,
+  continueRefusal,
+  refusedAnswer,
+  plainAnswer,
+  differsAnswer,
+  movedTo,
+  advanced,
+  continued,
+  scratchAfter,
+};
 
 // How far a comparison has come: still open, or closed by a verdict.
 pub enum Mark {
@@ -199,7 +217,13 @@ fn state_refusal(sizes: Sizes, size: u64, session: Session) -> Refusal
 }
 
 // What continuing with a scratch slice of `room` entries answers first: 11, the files' refusal, 12, 101, 102, 103, or acceptance.
-fn continue_refusal(file1: &[u8], file2: &[u8], session: Session, budget: u64, room: usize) -> Refusal
+fn continue_refusal(
+    file1: &[u8],
+    file2: &[u8],
+    session: Session,
+    budget: u64,
+    room: usize,
+) -> Refusal
     ensures { λ r. ⌜ r ≡ continueRefusal (now (file1 .entry)) (now (file2 .entry)) session budget room ⌝ }
 {
     if budget == 0 {
@@ -283,7 +307,13 @@ fn moved(session: Session, position: u64, mark: Mark) -> Session
 }
 
 // An accepted call: runs up to `budget` vectors from the session's position on. Past the larger N no scratch entry is touched.
-fn advance(file1: &[u8], file2: &[u8], session: Session, budget: u64, scratch: &mut [u64]) -> Continued
+fn advance(
+    file1: &[u8],
+    file2: &[u8],
+    session: Session,
+    budget: u64,
+    scratch: &mut [u64],
+) -> Continued
     requires { ⌜ Comparable (now file1) (now file2) ⌝ }
     requires { ⌜ session .position < gridSize (sizesOf (now file1)) ⌝ }
     requires { ⌜ largerCount (now file1) (now file2) ≤ length (now scratch) ⌝ }
@@ -314,7 +344,13 @@ fn advance(file1: &[u8], file2: &[u8], session: Session, budget: u64, scratch: &
 // session is closed. Spent: none of these differs and more remain. Refused under document 01's conditions in the order 11, file 1, file 2,
 // 9, 10, 12, 101, 102, 103, with the session as it was given and no scratch entry touched. After an accepted call the first entries of the
 // scratch slice, as many as the larger N, are zero, and the others untouched.
-pub fn continue_session(file1: &[u8], file2: &[u8], session: Session, budget: u64, scratch: &mut [u64]) -> Continued
+pub fn continue_session(
+    file1: &[u8],
+    file2: &[u8],
+    session: Session,
+    budget: u64,
+    scratch: &mut [u64],
+) -> Continued
     ensures { λ r. ⌜ (r ≡ continued (now (file1 .entry)) (now (file2 .entry)) session budget (length (now (scratch .entry)))) × (now (scratch .exit) ≡ scratchAfter (now (file1 .entry)) (now (file2 .entry)) session budget (now (scratch .entry))) ⌝ }
 {
     let refusal = continue_refusal(file1, file2, session, budget, scratch.len());

@@ -7,7 +7,7 @@ use Prim.Native.Nat.{ℕ, suc, _^_, _<_, _≤_}
 use native.Mathlib.Decide.{decLt, ℕ-discrete}
 use native.Mathlib.Omega.{arith}
 use lib.ListN.{length, getD, take, drop, replicate}
-use borrow.Author.Tests.{lt-ltb, le-ltb, ltb-true, ltb-false, eq-eqb, ne-eqb, eqb-true, not-false}
+use borrow.Author.Tests.{lt-ltb, le-ltb, ltb-true, ltb-false, eq-eqb, ne-eqb, not-false}
 use Rattle.file.specs.Check.{fileNumber, refusalOf}
 use Rattle.file.specs.File.{sizesOf, stepCount}
 use Rattle.file.proofs.Accepted as file
@@ -15,7 +15,7 @@ use Rattle.file.proofs.Number.{refusal-number}
 use Rattle.grid.specs.Grid.{gridSize, tooLarge}
 use Rattle.grid.proofs.Axes.{never-large}
 use Rattle.search.proofs.Search.{every-at, every-of}
-use Rattle.sizes.specs.Sizes.{badOutput, badInputs, badWidths, maxInputs, refusedBy, accepted}
+use Rattle.sizes.specs.Sizes.{badOutput, badInputs, badWidths, refusedBy, accepted}
 use Rattle.sizes.specs.declared.Refusal.{Refusal}
 use Rattle.sizes.specs.declared.Sizes.{Sizes}
 use Rattle.sizes.proofs.Ranges.{output-range, inputs-range}

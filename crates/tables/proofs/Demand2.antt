@@ -1,12 +1,12 @@
 -- Demand 2, as specs/Demand2.antt states it. What a call writes are numbers below 2^m, one for each vector of the grid: so the next call takes
 -- them, and gives back what was read, since differencing and summing undo one another.
-use mathlib.Core.Path.{_≡_, sym, _∙_, ap, ap₂}
+use mathlib.Core.Path.{_≡_, _∙_, ap}
 use mathlib.Core.Bool.{false}
 use mathlib.Core.List.{List, _++_}
 use Prim.Native.Nat.{ℕ, _+_, _^_, _≤_, _<_}
 use native.Mathlib.Nat.{mod-lt}
 use native.Mathlib.Omega.{arith}
-use lib.ListN.{length, getD, take, drop, length-append, List·getD-append}
+use lib.ListN.{length, take, drop, length-append, List·getD-append}
 use lib.Pow.{pow-pos}
 use lib.Seq.{take-at, length-take-le, getD-take}
 use Rattle.differences.specs.Statement.{Cells}
@@ -26,7 +26,7 @@ use Rattle.sizes.specs.declared.Sizes.{Sizes}
 use Rattle.steps.specs.Steps.{exact}
 use Rattle.tables.specs.Demand2.{SumOfMade, DifferenceOfSum, SumOfDifference}
 use Rattle.tables.specs.Tables.{cellsRefusal, tableOfFile, differencesOf, sumsOf, differenced, summedUp}
-use Rattle.tables.proofs.Answers.{Fitting, Passed, passed, fits, at-0, differenced-accepted, summed-accepted, made, table-accepted}
+use Rattle.tables.proofs.Answers.{Fitting, passed, fits, at-0, differenced-accepted, summed-accepted, made, table-accepted}
 use Rattle.tables.proofs.Files.{table-sums}
 
 number : {r : Refusal} → r ≡ accepted → r .number ≡ 0

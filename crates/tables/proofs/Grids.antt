@@ -1,11 +1,11 @@
 -- The grid of given sizes, as the code has it: its first d axes are the grid's, and it is what the passes in place ask for.
-use mathlib.Core.Path.{_≡_, sym, _∙_, ap, ap₂}
+use mathlib.Core.Path.{_≡_, _∙_, ap, ap₂}
+use mathlib.Core.Bool.{false}
 use mathlib.Core.List.{List, _++_}
-use Prim.Native.Nat.{ℕ, _≤_, _<_}
+use Prim.Native.Nat.{ℕ, _≤_}
 use native.Mathlib.Omega.{arith}
 use lib.ListN.{length, take, drop, length-map}
 use lib.Seq.{take-at, drop-at, length-take-le}
-use Rattle.bound.specs.Axes.{axis}
 use Rattle.grid.specs.Grid.{axesOf, gridSize, gridOf, widthsOf}
 use Rattle.grid.specs.declared.Grid.{Grid}
 use Rattle.grid.proofs.Axes.{size-least}
@@ -22,8 +22,13 @@ pub record Sound (z : Sizes) : Type 0 where
   pub outputHigh : z .m ≤ 64
   pub inputsHigh : z .d ≤ maxInputs
 
+pub sound : (z : Sizes) → length (z .widths) ≡ maxInputs → badOutput z ≡ false → badInputs z ≡ false → Sound z
+sound z w o i =
+    let m = output-range z o in
+    record { eight = w; outputLow = m .0; outputHigh = m .1; inputsHigh = inputs-range z i .1 }
+
 module _ (z : Sizes) (s : Sound z) where
-  pub axes-length : length (axesOf z) ≡ z .d
+  axes-length : length (axesOf z) ≡ z .d
   unfolding axesOf
   axes-length = rw length-map (length-take-le (z .d) (z .widths) (omega (arith, s .eight, s .inputsHigh)))
 

@@ -116,8 +116,10 @@ pub fn difference(z: Sizes, outputs: &[u64], table: &mut [u64]) -> Refusal
     let g = grid_of(z);
     let axes = g.axes;
     let count = g.size as usize;
+    let d = z.d as usize;
+    let m = z.m as u64;
     copy_front(outputs, table, count);
-    difference_in_place(table, axes, z.d as usize, count, z.m as u64);
+    difference_in_place(table, axes, d, count, m);
     refusal
 }
 
@@ -135,8 +137,10 @@ pub fn sum(z: Sizes, table: &[u64], outputs: &mut [u64]) -> Refusal
     let g = grid_of(z);
     let axes = g.axes;
     let count = g.size as usize;
+    let d = z.d as usize;
+    let m = z.m as u64;
     copy_front(table, outputs, count);
-    sum_in_place(outputs, axes, z.d as usize, count, z.m as u64);
+    sum_in_place(outputs, axes, d, count, m);
     refusal
 }
 
@@ -191,13 +195,14 @@ fn fill_table(file: &[u8], scratch: &mut [u64], table: &mut [u64])
     ensures { λ _. ⌜ (now (table .exit) ≡ tableOfFile (now (file .entry)) ++ drop (gridSize (sizesOf (now (file .entry)))) (now (table .entry))) × (now (scratch .exit) ≡ replicate (stepCount (now (file .entry))) 0 ++ drop (stepCount (now (file .entry))) (now (scratch .entry))) ⌝ }
 {
     let z = read_sizes(file);
-    let n = step_count(file);
     let d = z.d as usize;
+    let m = z.m as u64;
     let g = grid_of(z);
     let axes = g.axes;
     let count = g.size as usize;
+    let n = step_count(file);
     fill_outputs(file, n, axes, d, count, scratch, table);
-    difference_in_place(table, axes, d, count, z.m as u64);
+    difference_in_place(table, axes, d, count, m);
     clear(scratch, n);
 }
 

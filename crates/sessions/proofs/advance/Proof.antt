@@ -33,10 +33,11 @@ sized c = ap (λ (g : Grid). g .size) (c .grid-of .ensures ∙ ap gridOf (c .bef
 low : (c : tie.After-first-difference) → c .before .before .before .before .before .before .before .before .args .session .position ≤ c .first-difference .result
 low c =
     let a = c .before .before .before .before .before .before .before .before .args in
-    omega
-    (arith,
-    c .first-difference .ensures .0,
-    first-low (outputsDiffer (now (a .file1)) (now (a .file2))) (a .session .position) (c .before .before .smaller .result))
+    omega (
+      arith,
+      c .first-difference .ensures .0,
+      first-low (outputsDiffer (now (a .file1)) (now (a .file2))) (a .session .position) (c .before .before .smaller .result),
+    )
 
 -- src/lib.rt:292:24
 read-sizes-requires : tie.Need-read-sizes-requires
@@ -46,9 +47,10 @@ read-sizes-requires c κs = search needs
 grid-of-requires : tie.Need-grid-of-requires
 grid-of-requires c κs =
     let a = c .before .before .before .before .pre .0 .sound₁ in
-    let z = c .read-sizes .ensures in
-    ((omega (arith, a .outputLow, ap (λ (z : Sizes). z .m) z), omega (arith, a .outputHigh, ap (λ (z : Sizes). z .m) z)),
-    omega (arith, a .inputsHigh, ap (λ (z : Sizes). z .d) z))
+    let z = c .read-sizes .ensures in (
+      (omega (arith, a .outputLow, ap (λ (z : Sizes). z .m) z), omega (arith, a .outputHigh, ap (λ (z : Sizes). z .m) z)),
+      omega (arith, a .inputsHigh, ap (λ (z : Sizes). z .d) z),
+    )
 
 -- src/lib.rt:294:16
 sub-left : tie.Need-sub-left
@@ -79,10 +81,13 @@ sub-differs-answer c = omega (arith, low (c .before .before .before))
 -- src/lib.rt:298:13
 differs-answer-requires : tie.Need-differs-answer-requires
 differs-answer-requires c κs =
-    let p = c .before .before .before .before .before .before .before .before .before .before .before .before .pre in
-    (p .0,
-    (omega (arith, c .before .if1 .taken, sized (c .before .before .before .before .before .before .before), p .1 .0, c .before .before .before .before .before .before .smaller .ensures),
-    omega (arith, p .1 .1, c .before .before .before .before .first-difference .kept .1 .1 .1 .1 .0)))
+    let p = c .before .before .before .before .before .before .before .before .before .before .before .before .pre in (
+      p .0,
+      (
+        omega (arith, c .before .if1 .taken, sized (c .before .before .before .before .before .before .before), p .1 .0, c .before .before .before .before .before .before .smaller .ensures),
+        omega (arith, p .1 .1, c .before .before .before .before .first-difference .kept .1 .1 .1 .1 .0),
+      ),
+    )
 
 -- src/lib.rt:299:38
 add-moved : tie.Need-add-moved
@@ -101,11 +106,12 @@ returns : tie.Need-returns
 returns c =
     let a = c .before .before .before .before .before .before .before .before .before .before .before .before .before .before .before .before .args in
     let f = c .before .before .before .before .before .before .before .before in
-    let d = c .before .before .before .differs-answer .ensures in
-    (ap₂ handed (c .moved .ensures) (d .0)
-    ∙ advanced-differs (now (a .file1)) (now (a .file2)) (a .session) (a .budget) _ _ _ (sized (f .before .before .before)) (f .before .before .smaller .ensures)
-    (f .first-difference .ensures .0) (c .before .before .before .before .before .if1 .taken),
-    d .1 ∙ f .first-difference .ensures .1)
+    let d = c .before .before .before .differs-answer .ensures in (
+      ap₂ handed (c .moved .ensures) (d .0)
+          ∙ advanced-differs (now (a .file1)) (now (a .file2)) (a .session) (a .budget) _ _ _ (sized (f .before .before .before)) (f .before .before .smaller .ensures)
+          (f .first-difference .ensures .0) (c .before .before .before .before .before .if1 .taken),
+      d .1 ∙ f .first-difference .ensures .1,
+    )
 
 -- src/lib.rt:303:13
 plain-answer-requires : tie.Need-plain-answer-requires
@@ -123,12 +129,13 @@ same-length-2 c = search needs
 returns-2 : tie.Need-returns-2
 returns-2 c =
     let a = c .before .before .before .before .before .before .before .before .before .before .before .before .before .before .args in
-    let f = c .before .before .before .before .before .before in
-    (ap₂ handed (c .moved2 .ensures) (c .before .plain-answer .ensures)
-    ∙ advanced-equivalent (now (a .file1)) (now (a .file2)) (a .session) (a .budget) _ _ _ (sized (f .before .before .before)) (f .before .before .smaller .ensures)
-    (f .first-difference .ensures .0) (c .before .before .before .if1 .left) (omega (arith, sized (f .before .before .before), c .before .before .before .before .before .before .before .before .before .before .before .before .before .before .pre .1 .0))
-    (c .before .before .if2 .taken),
-    f .first-difference .ensures .1)
+    let f = c .before .before .before .before .before .before in (
+      ap₂ handed (c .moved2 .ensures) (c .before .plain-answer .ensures)
+          ∙ advanced-equivalent (now (a .file1)) (now (a .file2)) (a .session) (a .budget) _ _ _ (sized (f .before .before .before)) (f .before .before .smaller .ensures)
+          (f .first-difference .ensures .0) (c .before .before .before .if1 .left) (omega (arith, sized (f .before .before .before), c .before .before .before .before .before .before .before .before .before .before .before .before .before .before .pre .1 .0))
+          (c .before .before .if2 .taken),
+      f .first-difference .ensures .1,
+    )
 
 -- src/lib.rt:307:9
 plain-answer-requires-2 : tie.Need-plain-answer-requires-2
@@ -150,12 +157,13 @@ same-length-3 c = search needs
 returns-3 : tie.Need-returns-3
 returns-3 c =
     let a = c .before .before .before .before .before .before .before .before .before .before .before .before .before .before .args in
-    let f = c .before .before .before .before .before .before in
-    (ap₂ handed (c .moved3 .ensures) (c .before .plain-answer2 .ensures)
-    ∙ advanced-spent (now (a .file1)) (now (a .file2)) (a .session) (a .budget) _ _ _ (sized (f .before .before .before)) (f .before .before .smaller .ensures)
-    (f .first-difference .ensures .0) (c .before .before .before .if1 .left) (omega (arith, sized (f .before .before .before), c .before .before .before .before .before .before .before .before .before .before .before .before .before .before .pre .1 .0))
-    (c .before .before .if2 .left),
-    f .first-difference .ensures .1)
+    let f = c .before .before .before .before .before .before in (
+      ap₂ handed (c .moved3 .ensures) (c .before .plain-answer2 .ensures)
+          ∙ advanced-spent (now (a .file1)) (now (a .file2)) (a .session) (a .budget) _ _ _ (sized (f .before .before .before)) (f .before .before .smaller .ensures)
+          (f .first-difference .ensures .0) (c .before .before .before .if1 .left) (omega (arith, sized (f .before .before .before), c .before .before .before .before .before .before .before .before .before .before .before .before .before .before .pre .1 .0))
+          (c .before .before .if2 .left),
+      f .first-difference .ensures .1,
+    )
 
 pub advance-spec : {M : Type 1} → statement M
 advance-spec =

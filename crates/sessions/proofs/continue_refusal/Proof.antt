@@ -102,9 +102,10 @@ read-sizes-requires c κs = files (c .before .before .before .before) .sound₁ 
 grid-of-requires : tie.Need-grid-of-requires
 grid-of-requires c κs =
     let a = files (c .before .before .before .before .before) .sound₁ in
-    let z = c .read-sizes .ensures in
-    ((omega (arith, a .outputLow, ap (λ (z : Sizes). z .m) z), omega (arith, a .outputHigh, ap (λ (z : Sizes). z .m) z)),
-    omega (arith, a .inputsHigh, ap (λ (z : Sizes). z .d) z))
+    let z = c .read-sizes .ensures in (
+      (omega (arith, a .outputLow, ap (λ (z : Sizes). z .m) z), omega (arith, a .outputHigh, ap (λ (z : Sizes). z .m) z)),
+      omega (arith, a .inputsHigh, ap (λ (z : Sizes). z .d) z),
+    )
 
 -- src/lib.rt:218:5
 state-refusal-requires : tie.Need-state-refusal-requires

@@ -74,10 +74,11 @@ refused-answer-requires c κs = search needs
 returns : tie.Need-returns
 returns c =
     let a = c .before .before .before .before .before .before .args in
-    let r = refusing (c .before) in
-    (ap (handed (a .session)) (c .refused-answer .ensures ∙ ap refusedAnswer (c .before .before .continue-refusal .ensures))
-    ∙ continued-refused _ _ _ _ _ r,
-    scratch-refused _ _ _ _ _ r)
+    let r = refusing (c .before) in (
+      ap (handed (a .session)) (c .refused-answer .ensures ∙ ap refusedAnswer (c .before .before .continue-refusal .ensures))
+          ∙ continued-refused _ _ _ _ _ r,
+      scratch-refused _ _ _ _ _ r,
+    )
 
 -- src/lib.rt:326:9
 advance-requires : tie.Need-advance-requires
@@ -112,12 +113,13 @@ returns-2 c =
     let a = c .before .before .before .before .before .before .before .before .before .before .before .before .before .before .before .before .args in
     let g = c .before .before .before .before .before .before .before .before .before .before .before in
     let o = c .before .before .before .before .before .before .before .before .before .advance .ensures in
-    let n = counted (c .before .before .before) in
-    (o .0 ∙ continued-accepted _ _ _ _ _ (accepting g),
-    c .before .before .clear .ensures
-    ∙ ap (λ k. replicate k 0 ++ drop k (c .before .before .before .before .before .before .before .before .before .advance .last .1 .1 .1 .1 .0)) n
-    ∙ ap (λ l. replicate (largerCount (now (a .file1)) (now (a .file2))) 0 ++ l) (o .1)
-    ∙ scratch-accepted _ _ _ _ _ (accepting g))
+    let n = counted (c .before .before .before) in (
+      o .0 ∙ continued-accepted _ _ _ _ _ (accepting g),
+      c .before .before .clear .ensures
+          ∙ ap (λ k. replicate k 0 ++ drop k (c .before .before .before .before .before .before .before .before .before .advance .last .1 .1 .1 .1 .0)) n
+          ∙ ap (λ l. replicate (largerCount (now (a .file1)) (now (a .file2))) 0 ++ l) (o .1)
+          ∙ scratch-accepted _ _ _ _ _ (accepting g),
+    )
 
 pub continue-session-spec : {M : Type 1} → statement M
 continue-session-spec =

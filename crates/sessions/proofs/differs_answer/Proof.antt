@@ -47,9 +47,10 @@ cast-d c = search needs
 grid-of-requires : tie.Need-grid-of-requires
 grid-of-requires c κs =
     let a = c .before .before .before .before .before .pre .0 .sound₁ in
-    let z = c .before .read-sizes .ensures in
-    ((omega (arith, a .outputLow, ap (λ (z : Sizes). z .m) z), omega (arith, a .outputHigh, ap (λ (z : Sizes). z .m) z)),
-    omega (arith, a .inputsHigh, ap (λ (z : Sizes). z .d) z))
+    let z = c .before .read-sizes .ensures in (
+      (omega (arith, a .outputLow, ap (λ (z : Sizes). z .m) z), omega (arith, a .outputHigh, ap (λ (z : Sizes). z .m) z)),
+      omega (arith, a .inputsHigh, ap (λ (z : Sizes). z .d) z),
+    )
 
 -- src/lib.rt:260:18
 vector-at-requires : tie.Need-vector-at-requires
@@ -102,10 +103,11 @@ returns c =
     let first = c .before .before .before .before .before .before .before .before .before .output-at .ensures in
     let second = c .before .before .before .output-at2 .ensures in
     let o₁ = first .0 ∙ ap (outputOf s₁) v ∙ output-held s₁ x in
-    let o₂ = second .0 ∙ ap (outputOf s₂) v ∙ output-held s₂ x in
-    (λ i. record { refusal = c .refused-by .ensures i; outcome = Differs; run = a .run; vector = v i; output1 = o₁ i; output2 = o₂ i },
-    drop-later _ _ (c .before .before .before .before .before .before .step-count2 .result) (largerCount s₁ s₂) (omega (arith, c .before .before .before .before .before .before .step-count2 .ensures .0, le-max-right (stepCount s₁) (stepCount s₂))) (second .1)
-    ∙ drop-later _ _ (c .before .before .before .before .before .before .before .before .before .before .before .before .step-count .result) (largerCount s₁ s₂) (omega (arith, c .before .before .before .before .before .before .before .before .before .before .before .before .step-count .ensures .0, le-max-left (stepCount s₁) (stepCount s₂))) (first .1))
+    let o₂ = second .0 ∙ ap (outputOf s₂) v ∙ output-held s₂ x in (
+      λ i. record { refusal = c .refused-by .ensures i; outcome = Differs; run = a .run; vector = v i; output1 = o₁ i; output2 = o₂ i },
+      drop-later _ _ (c .before .before .before .before .before .before .step-count2 .result) (largerCount s₁ s₂) (omega (arith, c .before .before .before .before .before .before .step-count2 .ensures .0, le-max-right (stepCount s₁) (stepCount s₂))) (second .1)
+          ∙ drop-later _ _ (c .before .before .before .before .before .before .before .before .before .before .before .before .step-count .result) (largerCount s₁ s₂) (omega (arith, c .before .before .before .before .before .before .before .before .before .before .before .before .step-count .ensures .0, le-max-left (stepCount s₁) (stepCount s₂))) (first .1),
+    )
 
 pub differs-answer-spec : {M : Type 1} → statement M
 differs-answer-spec =

@@ -10,38 +10,28 @@ use Rattle.tables.proofs.Answers.{cells-short, written-short, cells-jud
 use borrow.Author.Needs.{needs}
 use Rattle.tables.proofs.bad_cells.Statement.{statement}
 use Rattle.tables.proofs.bad_cells.Tie as tie
-use Rattle.tables.proofs.bad_cells.Reads as reads
-use Rattle.tables.proofs.bad_cells.Lts as lts
-use Rattle.grid.proofs.grid_of.Reads as grid-of-reads
-use Rattle.tables.proofs.large_cell.Reads as large-cell-reads
 
 counted : (c : tie.After-grid-of) → c .grid-of .result .size ≡ gridSize (c .before .before .args .z)
 unfolding gridOf
 counted c = ap (λ (g : Grid). g .size) (c .grid-of .ensures)
 
--- src/lib.rt:49:9
 grid-of-requires : tie.Need-grid-of-requires
 grid-of-requires c κs = search needs
 
--- src/lib.rt:52:9
 returns : tie.Need-returns
 returns c = sym (cells-short _ _ _ (omega (arith, c .if1 .taken, counted (c .before))))
 
--- src/lib.rt:55:9
 returns-2 : tie.Need-returns-2
 returns-2 c =
     let e = counted (c .before .before) in
     sym (written-short _ _ _ (omega (arith, c .before .if1 .left, e)) (omega (arith, c .if2 .taken, e)))
 
--- src/lib.rt:57:30
 cast-large-cell : tie.Need-cast-large-cell
 cast-large-cell c = search needs
 
--- src/lib.rt:57:5
 large-cell-requires : tie.Need-large-cell-requires
 large-cell-requires c κs = search needs
 
--- src/lib.rt:45:1
 returns-3 : tie.Need-returns-3
 returns-3 c =
     let start = c .before .before .before .before .before .before in

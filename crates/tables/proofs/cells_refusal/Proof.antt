@@ -8,13 +8,6 @@ use Rattle.tables.proofs.Answers.{at-2, at-3, at-5, at-13, at-0}
 use borrow.Author.Needs.{needs}
 use Rattle.tables.proofs.cells_refusal.Statement.{statement}
 use Rattle.tables.proofs.cells_refusal.Tie as tie
-use Rattle.tables.proofs.cells_refusal.Reads as reads
-use Rattle.tables.proofs.cells_refusal.Lts as lts
-use Rattle.sizes.proofs.bad_inputs.Reads as bad-inputs-reads
-use Rattle.sizes.proofs.bad_output.Reads as bad-output-reads
-use Rattle.sizes.proofs.bad_widths.Reads as bad-widths-reads
-use Rattle.sizes.proofs.refused_by.Reads as refused-by-reads
-use Rattle.tables.proofs.bad_cells.Reads as bad-cells-reads
 
 output : (c : tie.Else1) → badOutput (c .before .before .before .args .z) ≡ false
 output c = sym (c .before .bad-output .ensures) ∙ c .if1 .left
@@ -25,58 +18,46 @@ inputs c = sym (c .before .bad-inputs .ensures) ∙ c .if2 .left
 widths : (c : tie.Else3) → badWidths (c .before .before .before .before .before .before .before .args .z) ≡ false
 widths c = sym (c .before .bad-widths .ensures) ∙ c .if3 .left
 
--- src/lib.rt:64:8
 bad-output-requires : tie.Need-bad-output-requires
 bad-output-requires c κs = search needs
 
--- src/lib.rt:65:9
 refused-by-requires : tie.Need-refused-by-requires
 refused-by-requires c κs = search needs
 
--- src/lib.rt:65:9
 returns : tie.Need-returns
 returns c = c .refused-by .ensures ∙ sym (at-2 _ _ _ (sym (c .before .before .bad-output .ensures) ∙ c .before .if1 .taken))
 
--- src/lib.rt:67:8
 bad-inputs-requires : tie.Need-bad-inputs-requires
 bad-inputs-requires c κs = search needs
 
--- src/lib.rt:68:9
 refused-by-requires-2 : tie.Need-refused-by-requires-2
 refused-by-requires-2 c κs = search needs
 
--- src/lib.rt:68:9
 returns-2 : tie.Need-returns-2
 returns-2 c =
     c .refused-by2 .ensures
     ∙ sym (at-3 _ _ _ (output (c .before .before .before)) (sym (c .before .before .bad-inputs .ensures) ∙ c .before .if2 .taken))
 
--- src/lib.rt:70:8
 bad-widths-requires : tie.Need-bad-widths-requires
 bad-widths-requires c κs = search needs
 
--- src/lib.rt:71:9
 refused-by-requires-3 : tie.Need-refused-by-requires-3
 refused-by-requires-3 c κs = search needs
 
--- src/lib.rt:71:9
 returns-3 : tie.Need-returns-3
 returns-3 c =
     let g = c .before .before .before in
     c .refused-by3 .ensures
     ∙ sym (at-5 _ _ _ (output (g .before .before)) (inputs g) (sym (c .before .before .bad-widths .ensures) ∙ c .before .if3 .taken))
 
--- src/lib.rt:73:8
 bad-cells-requires : tie.Need-bad-cells-requires
 bad-cells-requires c κs =
     let m = output-range _ (output (c .before .before .before .before)) in
     (m .0, m .1, inputs-range _ (inputs (c .before .before)) .1)
 
--- src/lib.rt:74:9
 refused-by-requires-4 : tie.Need-refused-by-requires-4
 refused-by-requires-4 c κs = search needs
 
--- src/lib.rt:74:9
 returns-4 : tie.Need-returns-4
 returns-4 c =
     let g = c .before .before .before in
@@ -85,11 +66,9 @@ returns-4 c =
     (at-13 _ _ _ (output (g .before .before .before .before)) (inputs (g .before .before)) (widths g)
     (sym (c .before .before .bad-cells .ensures) ∙ c .before .if4 .taken))
 
--- src/lib.rt:76:5
 refused-by-requires-5 : tie.Need-refused-by-requires-5
 refused-by-requires-5 c κs = search needs
 
--- src/lib.rt:61:1
 returns-5 : tie.Need-returns-5
 returns-5 c =
     let g = c .before .before .before in

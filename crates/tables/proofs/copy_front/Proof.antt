@@ -6,8 +6,6 @@ use borrow.Author.Needs.{needs}
 use Rattle.tables.proofs.Copied.{Copied, none, more, whole}
 use Rattle.tables.proofs.copy_front.Statement.{statement}
 use Rattle.tables.proofs.copy_front.Tie as tie
-use Rattle.tables.proofs.copy_front.Reads as reads
-use Rattle.tables.proofs.copy_front.Lts as lts
 
 abbrev Inv-loop : tie.InvT-loop
 Inv-loop from to₀ count i₀ to i = Copied from to₀ count to i
@@ -15,43 +13,33 @@ Inv-loop from to₀ count i₀ to i = Copied from to₀ count to i
 abbrev μ-loop : tie.MeasureT-loop
 μ-loop from to₀ count i₀ to i = count - i
 
--- src/lib.rt:85:5
 loop-holds : tie.Need-loop-holds Inv-loop μ-loop
 loop-holds c = none _ _ _
 
--- src/lib.rt:86:17
 mul-to : tie.Need-mul-to Inv-loop μ-loop
 mul-to c = search needs
 
--- src/lib.rt:86:17
 shared-slice-read-to : tie.Need-shared-slice-read-to Inv-loop μ-loop
 shared-slice-read-to c = search needs
 
--- src/lib.rt:86:9
 mul-to-2 : tie.Need-mul-to-2 Inv-loop μ-loop
 mul-to-2 c = search needs
 
--- src/lib.rt:86:9
 slice-write-to : tie.Need-slice-write-to Inv-loop μ-loop
 slice-write-to c = search needs
 
--- src/lib.rt:87:9
 add-i : tie.Need-add-i Inv-loop μ-loop
 add-i c = search needs
 
--- src/lib.rt:85:5
 loop-less : tie.Need-loop-less Inv-loop μ-loop
 loop-less c = search needs
 
--- src/lib.rt:85:5
 loop-again : tie.Need-loop-again Inv-loop μ-loop
 loop-again c = more _ _ _ _ _ (c .before .before .loop .inv) _ (c .before .loop-test .taken) (c .before .before .before .pre .0) (c .before .before .before .pre .1) refl
 
--- src/lib.rt:80:1
 same-length : tie.Need-same-length Inv-loop μ-loop
 same-length c = search needs
 
--- src/lib.rt:80:1
 returns : tie.Need-returns Inv-loop μ-loop
 returns c = whole _ _ _ _ _ (c .before .loop .inv) (c .loop-test .left)
 

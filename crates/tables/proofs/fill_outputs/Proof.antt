@@ -1,12 +1,11 @@
 -- `tables::fill_outputs` meets its contract. The loop's invariant: v holds the vector at place p while p is before the end, the outputs at the
 -- places passed are written, and the scratch entries past the first n are as at entry.
 -- Assumes nothing.
-use mathlib.Core.Path.{_≡_, refl, sym, _∙_, ap, ap₂}
+use mathlib.Core.Path.{_≡_, refl, sym, _∙_, ap}
 use mathlib.Core.List.{List, _++_}
 use Prim.Native.Nat.{ℕ, _+_, _-_, _≤_, _<_}
 use native.Mathlib.Omega.{arith}
 use borrow.Author.Needs.{needs}
-use denote.Ref.{now}
 use lib.ListN.{length, getD, take, drop, set}
 use lib.Seq.{take-all}
 use Rattle.differences.specs.Table.{listed}
@@ -22,11 +21,6 @@ use Rattle.tables.proofs.Copied.{Copied}
 use Rattle.tables.proofs.Files.{output-held}
 use Rattle.tables.proofs.fill_outputs.Statement.{statement}
 use Rattle.tables.proofs.fill_outputs.Tie as tie
-use Rattle.tables.proofs.fill_outputs.Reads as reads
-use Rattle.tables.proofs.fill_outputs.Lts as lts
-use Rattle.evaluate.proofs.output_at.Reads as output-at-reads
-use Rattle.vectors.proofs.next_vector.Reads as next-vector-reads
-use Rattle.vectors.proofs.vector_at.Reads as vector-at-reads
 
 record Filled (s : List ℕ) (n : ℕ) (axes : List ℕ) (d count : ℕ) (scratch₀ table₀ scratch table v : List ℕ) (p : ℕ) : Type 0 where
   asked : Filling s n axes d count scratch₀ table₀
@@ -89,13 +83,11 @@ Inv-loop file n axes d count scratch₀ table₀ v₀ p₀ scratch table v p = F
 abbrev μ-loop : tie.MeasureT-loop
 μ-loop file n axes d count scratch₀ table₀ v₀ p₀ scratch table v p = count - p
 
--- src/lib.rt:177:17
 vector-at-requires : tie.Need-vector-at-requires Inv-loop μ-loop
 vector-at-requires c κs =
     let k = c .before .before .before .pre in
     (omega (arith, k .inputs, k .sound .inputsHigh), omega (arith, k .some, k .counted))
 
--- src/lib.rt:179:5
 loop-holds : tie.Need-loop-holds Inv-loop μ-loop
 loop-holds c =
     record {
@@ -107,52 +99,41 @@ loop-holds c =
       vector = λ h. c .vector-at .ensures;
     }
 
--- src/lib.rt:180:36
 slice-aggregate-output-at : tie.Need-slice-aggregate-output-at Inv-loop μ-loop
 slice-aggregate-output-at c = sym (c .before .before .loop .inv .full)
 
--- src/lib.rt:180:13
 output-at-requires : tie.Need-output-at-requires Inv-loop μ-loop
 output-at-requires c κs = ready _ _ _ _ _ _ _ _ _ _ _ (c .before .before .before .loop .inv)
 
--- src/lib.rt:181:9
 mul-table : tie.Need-mul-table Inv-loop μ-loop
 mul-table c = let k = c .before .before .before .before .before .before .loop .inv in omega (arith, c .before .before .before .before .before .loop-test .taken, k .written .long, k .asked .held)
 
--- src/lib.rt:181:9
 slice-write-table : tie.Need-slice-write-table Inv-loop μ-loop
 slice-write-table c = let k = c .before .before .before .before .before .before .loop .inv in omega (arith, c .before .before .before .before .before .loop-test .taken, k .written .long, k .asked .held)
 
--- src/lib.rt:182:13
 next-vector-requires : tie.Need-next-vector-requires Inv-loop μ-loop
 next-vector-requires c κs =
     let k = c .before .before .before .before .before .before .loop .inv in
     (omega (arith, k .asked .inputs, k .asked .sound .inputsHigh), placed _ _ _ _ _ _ _ _ _ _ _ k (c .before .before .before .before .before .loop-test .taken))
 
--- src/lib.rt:183:9
 add-p : tie.Need-add-p Inv-loop μ-loop
 add-p c = omega (arith, c .before .before .before .before .before .before .loop-test .taken)
 
--- src/lib.rt:179:5
 loop-less : tie.Need-loop-less Inv-loop μ-loop
 loop-less c = omega (arith, c .before .before .before .before .before .before .loop-test .taken)
 
--- src/lib.rt:179:5
 loop-again : tie.Need-loop-again Inv-loop μ-loop
 loop-again c =
     let called = c .before .before .before .output-at in
     more _ _ _ _ _ _ _ _ _ _ _ (c .before .before .before .before .before .before .before .loop .inv) (c .before .before .before .before .before .before .loop-test .taken)
     _ _ _ (called .ensures .0) (called .kept .1 .1 .1 .0) (called .ensures .1) (search needs) (c .next-vector .ensures)
 
--- src/lib.rt:165:1
 same-length : tie.Need-same-length Inv-loop μ-loop
 same-length c = c .before .loop .inv .long
 
--- src/lib.rt:165:1
 same-length-2 : tie.Need-same-length-2 Inv-loop μ-loop
 same-length-2 c = c .before .loop .inv .written .long
 
--- src/lib.rt:165:1
 returns : tie.Need-returns Inv-loop μ-loop
 returns c =
     let k = c .before .loop .inv in

@@ -18,9 +18,6 @@ use Rattle.search.proofs.Search.{every-step, every-not, every-end}
 use Rattle.tables.specs.Tables.{smallCell, largeCell}
 use Rattle.tables.proofs.large_cell.Statement.{statement}
 use Rattle.tables.proofs.large_cell.Tie as tie
-use Rattle.tables.proofs.large_cell.Reads as reads
-use Rattle.tables.proofs.large_cell.Lts as lts
-use Rattle.words.proofs.cut.Reads as cut-reads
 
 module _ (m : ℕ) (cells : List ℕ) (p r : ℕ) (e : r ≡ getD cells p 0 % 2 ^ m) where
   own : eqb r (getD cells p 0) ≡ smallCell m cells p
@@ -40,44 +37,35 @@ Inv-loop cells count m p₀ p =
 abbrev μ-loop : tie.MeasureT-loop
 μ-loop cells count m p₀ p = count - p
 
--- src/lib.rt:34:5
 loop-holds : tie.Need-loop-holds Inv-loop μ-loop
 loop-holds c = (omega arith, rw sub-zero)
 
--- src/lib.rt:35:17
 mul-x : tie.Need-mul-x Inv-loop μ-loop
 mul-x c = search needs
 
--- src/lib.rt:35:17
 shared-slice-read-x : tie.Need-shared-slice-read-x Inv-loop μ-loop
 shared-slice-read-x c = search needs
 
--- src/lib.rt:36:12
 cut-requires : tie.Need-cut-requires Inv-loop μ-loop
 cut-requires c κs = search needs
 
--- src/lib.rt:37:13
 returns : tie.Need-returns Inv-loop μ-loop
 unfolding largeCell
 returns c =
     let inv = c .before .before .before .before .loop .inv in
     sym (ap not (inv .1 ∙ every-not _ _ _ (c .before .before .before .loop-test .taken) (large _ _ _ _ (c .before .cut .ensures) (c .if1 .taken))))
 
--- src/lib.rt:39:9
 add-p : tie.Need-add-p Inv-loop μ-loop
 add-p c = search needs
 
--- src/lib.rt:34:5
 loop-less : tie.Need-loop-less Inv-loop μ-loop
 loop-less c = search needs
 
--- src/lib.rt:34:5
 loop-again : tie.Need-loop-again Inv-loop μ-loop
 loop-again c =
     let inv = c .before .before .before .before .loop .inv in
     (omega arith, inv .1 ∙ every-step _ _ _ (c .before .before .before .loop-test .taken) (small _ _ _ _ (c .before .cut .ensures) (c .if1 .left)))
 
--- src/lib.rt:29:1
 returns-2 : tie.Need-returns-2 Inv-loop μ-loop
 unfolding largeCell
 returns-2 c = sym (ap not (c .before .loop .inv .1 ∙ every-end _ _ _ (c .loop-test .left)))

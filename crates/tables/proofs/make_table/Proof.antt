@@ -10,10 +10,6 @@ use Rattle.tables.proofs.Answers.{made, made-refused, table-accepted, s
 use borrow.Author.Needs.{needs}
 use Rattle.tables.proofs.make_table.Statement.{statement}
 use Rattle.tables.proofs.make_table.Tie as tie
-use Rattle.tables.proofs.make_table.Reads as reads
-use Rattle.tables.proofs.make_table.Lts as lts
-use Rattle.tables.proofs.fill_table.Reads as fill-table-reads
-use Rattle.tables.proofs.table_refusal.Reads as table-refusal-reads
 
 number :
     (c : tie.After-table-refusal) →
@@ -21,33 +17,27 @@ number :
     c .table-refusal .result .number ≡ tableRefusal (now (a .file)) (length (now (a .scratch))) (length (now (a .table))) .number
 number c = ap (λ (r : Refusal). r .number) (c .table-refusal .ensures)
 
--- src/lib.rt:210:9
 table-refusal-requires : tie.Need-table-refusal-requires
 table-refusal-requires c κs = search needs
 
--- src/lib.rt:213:9
 returns : tie.Need-returns
 returns c =
     let a = c .before .before .before .before .before .args in
     let w = made-refused (now (a .file)) (now (a .scratch)) (now (a .table)) (λ e. c .if1 .taken (number (c .before) ∙ e)) in
     (c .before .table-refusal .ensures, w .0, w .1)
 
--- src/lib.rt:215:5
 fill-table-requires : tie.Need-fill-table-requires
 fill-table-requires c κs =
     let g = c .before .before in
     let m = made _ _ _ (sym (number (g .before)) ∙ g .if1 .left) in
     (accepted _ (m .sound), (m .steps, m .cells))
 
--- src/lib.rt:207:1
 same-length : tie.Need-same-length
 same-length c = search needs
 
--- src/lib.rt:207:1
 same-length-2 : tie.Need-same-length-2
 same-length-2 c = search needs
 
--- src/lib.rt:207:1
 returns-2 : tie.Need-returns-2
 returns-2 c =
     let a = c .before .before .before .before .before .before .before .before .before .before .before .before .args in

@@ -15,13 +15,6 @@ use Rattle.tables.proofs.Answers.{table-file, table-12, table-13, table
 use borrow.Author.Needs.{needs}
 use Rattle.tables.proofs.table_refusal.Statement.{statement}
 use Rattle.tables.proofs.table_refusal.Tie as tie
-use Rattle.tables.proofs.table_refusal.Reads as reads
-use Rattle.tables.proofs.table_refusal.Lts as lts
-use Rattle.file.proofs.check.Reads as check-reads
-use Rattle.file.proofs.fields.read_sizes.Reads as read-sizes-reads
-use Rattle.file.proofs.fields.step_count.Reads as step-count-reads
-use Rattle.grid.proofs.grid_of.Reads as grid-of-reads
-use Rattle.sizes.proofs.refused_by.Reads as refused-by-reads
 
 number : (c : tie.After-check) → c .check .result .number ≡ fileNumber (now (c .before .before .args .file))
 number c = ap (λ (r : Refusal). r .number) (c .check .ensures) ∙ refusal-number _ 1
@@ -36,43 +29,34 @@ counted : (c : tie.After-grid-of) → c .grid-of .result .size ≡ gridSize (siz
 unfolding gridOf
 counted c = ap (λ (g : Grid). g .size) (c .grid-of .ensures ∙ ap gridOf (c .before .read-sizes .ensures))
 
--- src/lib.rt:148:9
 check-requires : tie.Need-check-requires
 check-requires c κs = search needs
 
--- src/lib.rt:151:9
 returns : tie.Need-returns
 returns c = c .before .check .ensures ∙ sym (table-file _ _ _ (λ e. c .if1 .taken (number (c .before) ∙ e)))
 
--- src/lib.rt:153:15
 step-count-requires : tie.Need-step-count-requires
 step-count-requires c κs = rules c .long
 
--- src/lib.rt:154:9
 refused-by-requires : tie.Need-refused-by-requires
 refused-by-requires c κs = search needs
 
--- src/lib.rt:154:9
 returns-2 : tie.Need-returns-2
 returns-2 c =
     c .refused-by .ensures
     ∙ sym (table-12 _ _ _ (sound (c .before .before .before)) (omega (arith, c .before .if2 .taken, c .before .before .step-count .ensures)))
 
--- src/lib.rt:156:21
 read-sizes-requires : tie.Need-read-sizes-requires
 read-sizes-requires c κs = rules (c .before .before) .long
 
--- src/lib.rt:156:9
 grid-of-requires : tie.Need-grid-of-requires
 grid-of-requires c κs =
     let a = rules (c .before .before .before) in
     rw (c .read-sizes .ensures) ((a .outputLow, a .outputHigh), a .inputsHigh)
 
--- src/lib.rt:158:9
 refused-by-requires-2 : tie.Need-refused-by-requires-2
 refused-by-requires-2 c κs = search needs
 
--- src/lib.rt:158:9
 returns-3 : tie.Need-returns-3
 returns-3 c =
     c .refused-by2 .ensures
@@ -80,11 +64,9 @@ returns-3 c =
     (table-13 _ _ _ (sound (c .before .before .before .before .before .before)) (omega (arith, c .before .before .before .before .if2 .left, c .before .before .before .before .before .step-count .ensures))
     (omega (arith, c .before .if3 .taken, counted (c .before .before))))
 
--- src/lib.rt:160:5
 refused-by-requires-3 : tie.Need-refused-by-requires-3
 refused-by-requires-3 c κs = search needs
 
--- src/lib.rt:145:1
 returns-4 : tie.Need-returns-4
 returns-4 c =
     c .refused-by3 .ensures

@@ -1,0 +1,69 @@
+-- `exports::table_calls::corkbingo_sum` meets its contract: the answer of `sum`, as words, and the slice as that call leaves it.
+-- Assumes nothing.
+use mathlib.Core.Bool.{true}
+use mathlib.Core.Path.{_≡_, sym, _∙_, ap}
+use borrow.Author.Tests.{not-true, not-false}
+use denote.Ref.{now}
+use lib.ListN.{length}
+use Rattle.tables.specs.Tables.{cellsRefusal, summedUp}
+use Rattle.exports.specs.TableWords.{laidOut}
+use Rattle.exports.specs.Words.{refusalWords}
+use Rattle.exports.proofs.Layouts.{laid}
+use borrow.Author.Needs.{needs}
+use Rattle.exports.proofs.table_calls.corkbingo_sum.Statement.{statement}
+use Rattle.exports.proofs.table_calls.corkbingo_sum.Tie as tie
+
+right :
+    (c : tie.Else1) →
+    let a = c .before .before .before .before .before .before .args in
+    laidOut (now (a .sizes)) (length (now (a .out))) ≡ true
+right c = sym (c .before .laid-out .ensures) ∙ not-false _ (c .if1 .left)
+
+laid-out-requires : tie.Need-laid-out-requires
+laid-out-requires c κs = search needs
+
+returns : tie.Need-returns
+returns c = let e = sym (c .before .laid-out .ensures) ∙ not-true _ (c .if1 .taken) in (rw e, rw e, rw e)
+
+sizes-from-requires : tie.Need-sizes-from-requires
+sizes-from-requires c κs = laid _ _ (right c) .1
+
+sum-requires : tie.Need-sum-requires
+sum-requires c κs = search needs
+
+slice-aggregate-copy-words : tie.Need-slice-aggregate-copy-words
+slice-aggregate-copy-words c = search needs
+
+copy-words-requires : tie.Need-copy-words-requires
+copy-words-requires c κs = laid _ _ (right (c .before .before .before .before .before .before .before)) .0
+
+same-length : tie.Need-same-length
+same-length c = search needs
+
+same-length-2 : tie.Need-same-length-2
+same-length-2 c = search needs
+
+returns-2 : tie.Need-returns-2
+returns-2 c =
+    let a = c .before .before .before .before .before .before .before .before .before .before .before .before .before .before .before .before .args in
+    let e = right (c .before .before .before .before .before .before .before .before .before .before) in
+    let z = c .before .before .before .before .before .before .before .before .before .sizes-from .ensures in
+    let m = c .before .before .before .before .before .before .before .sum .ensures in (
+      rw e,
+      rw e (c .before .before .copy-words .ensures ∙ ap refusalWords (m .0 ∙ ap (λ z. cellsRefusal z (now (a .table)) (length (now (a .outputs)))) z)),
+      rw e (m .1 ∙ ap (λ z. summedUp z (now (a .table)) (now (a .outputs))) z),
+    )
+
+pub corkbingo-sum-spec : {M : Type 1} → statement M
+corkbingo-sum-spec =
+    tie.close
+    (tie.spec
+    laid-out-requires
+    returns
+    sizes-from-requires
+    sum-requires
+    slice-aggregate-copy-words
+    copy-words-requires
+    same-length
+    same-length-2
+    returns-2)

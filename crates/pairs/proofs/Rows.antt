@@ -1,5 +1,5 @@
 -- Every row of the table holds. One test over the whole table computes, of each pair, the number of its opening, the answers to its calls
--- and its stop; they are those that its row claims.
+-- and its stop, and finds what the row claims. The law takes row i out of the test.
 -- Assumes nothing.
 use mathlib.Core.Path.{_≡_, refl, ap}
 use mathlib.Core.List.{List, [], _∷_, map}
@@ -10,7 +10,7 @@ use Rattle.bound.specs.Axes.{axis}
 use Rattle.bound.specs.Bound.{bound, bounds}
 use Rattle.engine.specs.Engine.{outputsDiffer}
 use Rattle.evaluate.specs.Evaluate.{outputOf}
-use Rattle.file.specs.Check.{fileNumber, tooShort, badCount, badLength, badOperation, operandsRule, argumentRule, badArgument, stepFault, faultyAt, faultyStep, headFault}
+use Rattle.file.specs.Check.{fileNumber, shownStep, refusalOf, tooShort, badCount, badLength, badOperation, operandsRule, argumentRule, badArgument, stepFault, faultyAt, faultyStep, headFault}
 use Rattle.file.specs.File.{sizesOf, stepCount, operation, argument}
 use Rattle.file.specs.Steps.{decoded, stepAt, stepsFrom, stepsOf}
 use Rattle.grid.specs.Grid.{axesOf, gridSize, tooLarge}
@@ -19,7 +19,7 @@ use Rattle.places.specs.Places.{size, vectorAt}
 use Rattle.search.specs.Search.{first, every}
 use Rattle.sessions.specs.Calls.{answerTo, answers, vectorsRun}
 use Rattle.sessions.specs.Demand3.{start, firstPlace, stop}
-use Rattle.sessions.specs.Session.{sameSizes, pairRefusal, opened, misplaced, isClosed, stateRefusal, continueRefusal, plainAnswer, differsAnswer, progress, advanced, continued}
+use Rattle.sessions.specs.Session.{sameSizes, pairRefusal, noSession, opened, misplaced, isClosed, stateRefusal, continueRefusal, refusedAnswer, plainAnswer, differsAnswer, progress, advanced, continued}
 use Rattle.sessions.specs.declared.Answer.{Answer}
 use Rattle.sizes.specs.Sizes.{badOutput, badInputs, widthRule, badWidths}
 use Rattle.steps.specs.Steps.{stepValue, values, exact, output}
@@ -43,9 +43,9 @@ claimed p = (0, p .answers, vectorsRun (p .answers))
 all-found : map found pairs ≡ map claimed pairs
 unfolding found claimed
     pairs a·dp b·dp written argumentBytes argumentOf operationByte bytes horner joined number x
-    opened pairRefusal sameSizes answers answerTo continued continueRefusal stateRefusal misplaced isClosed
-    advanced progress plainAnswer differsAnswer outputsDiffer outputOf vectorsRun stop firstPlace
-    fileNumber headFault tooShort badOutput badInputs badCount badWidths widthRule badLength
+    opened noSession pairRefusal sameSizes answers answerTo continued continueRefusal stateRefusal misplaced isClosed
+    advanced progress refusedAnswer plainAnswer differsAnswer outputsDiffer outputOf vectorsRun stop firstPlace
+    refusalOf shownStep fileNumber headFault tooShort badOutput badInputs badCount badWidths widthRule badLength
     faultyStep faultyAt stepFault badOperation badArgument argumentRule operandsRule
     sizesOf stepCount operation argument little stepsOf stepsFrom stepAt decoded
     axesOf gridSize tooLarge axis bound bounds size vectorAt

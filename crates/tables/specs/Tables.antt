@@ -1,14 +1,14 @@
 -- Making difference tables, differencing given outputs, and summing (document 01, 'Output, grid and order' and 'Refused because of the
 -- input'). G is the size of the grid. Differencing and summing read one slice and write the first G entries of another.
---   shortSlice g len         13, first part: a slice of len entries has fewer than G, which is g
---   largeCell m g cells      13, second part: one of the first G cells given is 2^m or more
---   tableRefusal s room len  what making a table answers, with room scratch entries and len table entries: the file's refusal, 10, 12, 13
---   cellsRefusal z cells len what differencing or summing answers, with the cells that are read and len entries to write: 2, 3, 5, 10, 13
---   tableOfFile s            the difference table of the exact values of the file s, over the grid
---   differencesOf z ys       the difference table of the outputs ys
---   sumsOf z cells           the outputs that the table sums to
---   madeTable, tableScratch  the table slice and the scratch slice after a table is made: the table, and N zeros, before the entries untouched
---   differenced, summedUp    the written slice after differencing and after summing
+--   shortSlice g len           13, first part: a slice of len entries has fewer than g, the size of the grid
+--   largeCell m g cells        13, second part: one of the first g cells given is 2^m or more
+--   tableRefusal s room len    what making a table answers, with room scratch entries and len table entries: the file's refusal, 10, 12, 13
+--   cellsRefusal z cells len   what differencing or summing answers, with the cells to read and len entries to write: 2, 3, 5, 10, 13
+--   tableOfFile s              the difference table of the exact values of the file s, over its grid
+--   differencesOf z ys         the difference table of the outputs ys
+--   sumsOf z cells             the outputs that the table sums to
+--   madeTable, tableScratch    the table slice and the scratch slice after a table is made: the table, and N zeros, with the other entries untouched
+--   differenced, summedUp      the slice that is written, after differencing and after summing
 -- A refused call leaves every slice untouched.
 use mathlib.Core.Bool.{Bool, not, cond, _||_}
 use mathlib.Core.List.{List, _++_}

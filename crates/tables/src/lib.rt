@@ -199,10 +199,10 @@ fn fill_table(file: &[u8], scratch: &mut [u64], table: &mut [u64])
     let m = z.m as u64;
     let g = grid_of(z);
     let axes = g.axes;
-    let count = g.size as usize;
+    let cells = g.size as usize;
     let n = step_count(file);
-    fill_outputs(file, n, axes, d, count, scratch, table);
-    difference_in_place(table, axes, d, count, m);
+    fill_outputs(file, n, axes, d, cells, scratch, table);
+    difference_in_place(table, axes, d, cells, m);
     clear(scratch, n);
 }
 

@@ -29,7 +29,7 @@ turn c =
     let s = c .before .before .before .before .before .before in
     let files = comparable _ _ (pair (now (s .args .file1)) (now (s .args .file2)) (s .pre .0)) in
     rw (c .continue-session .ensures .0)
-    (turned _ _ (s .pre .0) _ _ (c .before .before .loop .inv .0) 1000000 _ (omega arith)
+    (turned _ _ (s .pre .0) _ _ (c .before .before .loop .inv .0) _ _ (omega arith)
     (omega (arith, files .sound₁ .countHigh, files .sound₂ .countHigh, s .pre .1 .1, c .before .before .loop .inv .1)))
 
 loop-holds : tie.Need-loop-holds Inv-loop μ-loop

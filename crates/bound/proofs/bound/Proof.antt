@@ -4,8 +4,6 @@ use borrow.Author.Needs.{needs}
 use Rattle.bound.specs.Bound.{bounds, bound}
 use Rattle.bound.proofs.bound.Statement.{statement}
 use Rattle.bound.proofs.bound.Tie as tie
-use Rattle.bound.proofs.bound.Reads as reads
-use Rattle.bound.proofs.bound.Lts as lts
 
 sub-result : tie.Need-sub-result
 sub-result c = search needs

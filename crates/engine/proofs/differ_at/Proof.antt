@@ -8,23 +8,16 @@ use lib.Dec.{eqb}
 use Rattle.lists.proofs.Lists.{drop-later}
 use Rattle.engine.proofs.differ_at.Statement.{statement}
 use Rattle.engine.proofs.differ_at.Tie as tie
-use Rattle.engine.proofs.differ_at.Reads as reads
-use Rattle.engine.proofs.differ_at.Lts as lts
-use Rattle.evaluate.proofs.output_at.Reads as output-at-reads
 
--- src/lib.rt:33:9
 output-at-requires : tie.Need-output-at-requires
 output-at-requires c κs = search needs
 
--- src/lib.rt:34:9
 output-at-requires-2 : tie.Need-output-at-requires-2
 output-at-requires-2 c κs = search needs
 
--- src/lib.rt:21:1
 same-length : tie.Need-same-length
 same-length c = search needs
 
--- src/lib.rt:21:1
 returns : tie.Need-returns
 returns c =
     let first = c .before .before .before .before .before .before .output-at .ensures in

@@ -23,14 +23,6 @@ use Rattle.engine.proofs.Outputs.{test-held}
 use Rattle.engine.proofs.Prepared.{Prepared, prepared}
 use Rattle.engine.proofs.first_difference.Statement.{statement}
 use Rattle.engine.proofs.first_difference.Tie as tie
-use Rattle.engine.proofs.first_difference.Reads as reads
-use Rattle.engine.proofs.first_difference.Lts as lts
-use Rattle.engine.proofs.differ_at.Reads as differ-at-reads
-use Rattle.file.proofs.fields.read_sizes.Reads as read-sizes-reads
-use Rattle.file.proofs.fields.step_count.Reads as step-count-reads
-use Rattle.grid.proofs.grid_of.Reads as grid-of-reads
-use Rattle.vectors.proofs.next_vector.Reads as next-vector-reads
-use Rattle.vectors.proofs.vector_at.Reads as vector-at-reads
 
 record Passed (s₁ s₂ : List ℕ) (from count d : ℕ) (axes : List ℕ) (n₁ n₂ end : ℕ) (scratch₀ scratch v : List ℕ) (p : ℕ) : Type 0 where
   prepared : Prepared s₁ s₂ d axes n₁ n₂ end scratch₀
@@ -115,43 +107,34 @@ ready c =
     prepared _ _ _ _ (p .0) (c .before .before .before .before .before .read-sizes .ensures) (c .before .before .before .grid-of .ensures)
     _ _ _ _ (c .before .step-count .ensures .0) (c .step-count2 .ensures .0) (p .1 .0) (p .1 .1)
 
--- src/lib.rt:53:9
 returns : tie.Need-returns Inv-loop μ-loop
 returns c = (sym (ap (first _ _) (c .if1 .taken) ∙ first-none _ _), refl)
 
--- src/lib.rt:55:9
 read-sizes-requires : tie.Need-read-sizes-requires Inv-loop μ-loop
 read-sizes-requires c κs = c .before .before .before .before .pre .0 .sound₁ .long
 
--- src/lib.rt:56:13
 cast-d : tie.Need-cast-d Inv-loop μ-loop
 cast-d c = search needs
 
--- src/lib.rt:57:16
 grid-of-requires : tie.Need-grid-of-requires Inv-loop μ-loop
 grid-of-requires c κs =
     let a = c .before .before .before .before .before .before .pre .0 .sound₁ in
     rw (c .before .read-sizes .ensures) ((a .outputLow, a .outputHigh), a .inputsHigh)
 
--- src/lib.rt:58:9
 step-count-requires : tie.Need-step-count-requires Inv-loop μ-loop
 step-count-requires c κs = c .before .before .before .before .before .before .before .before .pre .0 .sound₁ .long
 
--- src/lib.rt:59:9
 step-count-requires-2 : tie.Need-step-count-requires-2 Inv-loop μ-loop
 step-count-requires-2 c κs = c .before .before .before .before .before .before .before .before .before .pre .0 .sound₂ .long
 
--- src/lib.rt:60:15
 add-end : tie.Need-add-end Inv-loop μ-loop
 add-end c = record { fits = ready c .fits }
 
--- src/lib.rt:61:17
 vector-at-requires : tie.Need-vector-at-requires Inv-loop μ-loop
 vector-at-requires c κs =
     let k = ready c in
     (omega (arith, k .inputs, k .files .sound₁ .inputsHigh), omega (arith, k .inside, c .before .before .before .before .before .before .if1 .left))
 
--- src/lib.rt:63:5
 loop-holds : tie.Need-loop-holds Inv-loop μ-loop
 loop-holds c =
     let a = c .before .before .before .before .before .before .before .before .before .before .before .args in
@@ -166,22 +149,18 @@ loop-holds c =
       same = ap (first _ (a .from)) e;
     }
 
--- src/lib.rt:64:44
 slice-aggregate-differ-at : tie.Need-slice-aggregate-differ-at Inv-loop μ-loop
 slice-aggregate-differ-at c = sym (c .before .before .loop .inv .full)
 
--- src/lib.rt:64:12
 differ-at-requires : tie.Need-differ-at-requires Inv-loop μ-loop
 differ-at-requires c κs =
     let k = c .before .before .before .loop .inv in
     let t = c .before .before .loop-test .taken in
     (ready₁ k t, ready₂ k t)
 
--- src/lib.rt:65:13
 same-length : tie.Need-same-length Inv-loop μ-loop
 same-length c = c .before .before .before .differ-at .kept .1 .1 .1 .1 .1 .0 ∙ c .before .before .before .before .before .before .before .loop .inv .long
 
--- src/lib.rt:65:13
 returns-2 : tie.Need-returns-2 Inv-loop μ-loop
 returns-2 c =
     let k = c .before .before .before .before .before .before .before .loop .inv in
@@ -189,23 +168,19 @@ returns-2 c =
     let e = c .before .before .before .differ-at .ensures in
     (found k t _ (e .0) (c .if2 .taken), untouched k t _ (e .1))
 
--- src/lib.rt:67:13
 next-vector-requires : tie.Need-next-vector-requires Inv-loop μ-loop
 next-vector-requires c κs =
     let k = c .before .before .before .before .before .before .before .loop .inv in
     let r = k .prepared in
     (omega (arith, r .inputs, r .files .sound₁ .inputsHigh), placed k (c .before .before .before .before .before .before .loop-test .taken))
 
--- src/lib.rt:68:9
 add-p : tie.Need-add-p Inv-loop μ-loop
 add-p c =
     omega (arith, c .before .before .before .before .before .before .before .loop-test .taken, c .before .before .before .before .before .before .before .before .loop .inv .prepared .fits)
 
--- src/lib.rt:63:5
 loop-less : tie.Need-loop-less Inv-loop μ-loop
 loop-less c = omega (arith, c .before .before .before .before .before .before .before .loop-test .taken)
 
--- src/lib.rt:63:5
 loop-again : tie.Need-loop-again Inv-loop μ-loop
 loop-again c =
     let called = c .before .before .before .before .differ-at in
@@ -213,11 +188,9 @@ loop-again c =
     (c .before .before .before .before .before .before .before .loop-test .taken)
     _ (called .ensures .0) _ _ (c .before .if2 .left) (called .kept .1 .1 .1 .1 .1 .0) (called .ensures .1) (search needs) (c .next-vector .ensures)
 
--- src/lib.rt:40:1
 same-length-2 : tie.Need-same-length-2 Inv-loop μ-loop
 same-length-2 c = c .before .loop .inv .long
 
--- src/lib.rt:40:1
 returns-3 : tie.Need-returns-3 Inv-loop μ-loop
 returns-3 c =
     let k = c .before .loop .inv in

@@ -14,9 +14,6 @@ use Rattle.search.proofs.Search.{every-step, every-not, every-end}
 use Rattle.evaluate.specs.Evaluate.{inRange, badVector}
 use Rattle.evaluate.proofs.bad_vector.Statement.{statement}
 use Rattle.evaluate.proofs.bad_vector.Tie as tie
-use Rattle.evaluate.proofs.bad_vector.Reads as reads
-use Rattle.evaluate.proofs.bad_vector.Lts as lts
-use Rattle.evaluate.proofs.in_range.Reads as in-range-reads
 
 abbrev Inv-loop : tie.InvT-loop
 Inv-loop z vector d i₀ i =
@@ -25,24 +22,19 @@ Inv-loop z vector d i₀ i =
 abbrev μ-loop : tie.MeasureT-loop
 μ-loop z vector d i₀ i = d - i
 
--- src/lib.rt:39:13
 cast-d : tie.Need-cast-d Inv-loop μ-loop
 cast-d c = search needs
 
--- src/lib.rt:41:9
 returns : tie.Need-returns Inv-loop μ-loop
 unfolding badVector
 returns c = rw (ne-eqb _ _ (c .if1 .taken))
 
--- src/lib.rt:44:5
 loop-holds : tie.Need-loop-holds Inv-loop μ-loop
 loop-holds c = (omega arith, c .if1 .left, rw sub-zero)
 
--- src/lib.rt:45:13
 in-range-requires : tie.Need-in-range-requires Inv-loop μ-loop
 in-range-requires c κs = omega arith
 
--- src/lib.rt:46:13
 returns-2 : tie.Need-returns-2 Inv-loop μ-loop
 unfolding badVector
 returns-2 c =
@@ -50,21 +42,17 @@ returns-2 c =
     let inv = c .before .before .before .loop .inv in
     rw (eq-eqb _ _ (inv .1), inv .2, every-not _ _ _ (c .before .before .loop-test .taken) broken)
 
--- src/lib.rt:48:9
 add-i : tie.Need-add-i Inv-loop μ-loop
 add-i c = omega arith
 
--- src/lib.rt:44:5
 loop-less : tie.Need-loop-less Inv-loop μ-loop
 loop-less c = omega arith
 
--- src/lib.rt:44:5
 loop-again : tie.Need-loop-again Inv-loop μ-loop
 loop-again c =
     let kept = sym (c .before .in-range .ensures) ∙ not-false _ (c .if2 .left) in
     (omega arith, c .before .before .before .loop .inv .1, c .before .before .before .loop .inv .2 ∙ every-step _ _ _ (c .before .before .loop-test .taken) kept)
 
--- src/lib.rt:35:1
 returns-3 : tie.Need-returns-3 Inv-loop μ-loop
 unfolding badVector
 returns-3 c =

@@ -10,8 +10,6 @@ use denote.Ref.{now}
 use lib.ListN.{length, drop, replicate, length-set}
 use Rattle.evaluate.proofs.clear.Statement.{statement}
 use Rattle.evaluate.proofs.clear.Tie as tie
-use Rattle.evaluate.proofs.clear.Reads as reads
-use Rattle.evaluate.proofs.clear.Lts as lts
 
 abbrev Inv-loop : tie.InvT-loop
 Inv-loop scratch₀ n i₀ scratch i =
@@ -20,27 +18,21 @@ Inv-loop scratch₀ n i₀ scratch i =
 abbrev μ-loop : tie.MeasureT-loop
 μ-loop scratch₀ n i₀ scratch i = n - i
 
--- src/lib.rt:59:5
 loop-holds : tie.Need-loop-holds Inv-loop μ-loop
 loop-holds c = (omega arith, refl, fill-none _ 0)
 
--- src/lib.rt:60:9
 mul-scratch : tie.Need-mul-scratch Inv-loop μ-loop
 mul-scratch c = search needs
 
--- src/lib.rt:60:9
 slice-write-scratch : tie.Need-slice-write-scratch Inv-loop μ-loop
 slice-write-scratch c = search needs
 
--- src/lib.rt:61:9
 add-i : tie.Need-add-i Inv-loop μ-loop
 add-i c = search needs
 
--- src/lib.rt:59:5
 loop-less : tie.Need-loop-less Inv-loop μ-loop
 loop-less c = search needs
 
--- src/lib.rt:59:5
 loop-again : tie.Need-loop-again Inv-loop μ-loop
 loop-again c =
     let inv = c .before .loop .inv in
@@ -48,11 +40,9 @@ loop-again c =
     let h : i < length (now (c .before .before .args .scratch)) = omega arith in
     (omega arith, simp length-set (inv .1), rw (inv .2) (fill-more i 0 (now (c .before .before .args .scratch)) h))
 
--- src/lib.rt:54:1
 same-length : tie.Need-same-length Inv-loop μ-loop
 same-length c = search needs
 
--- src/lib.rt:54:1
 returns : tie.Need-returns Inv-loop μ-loop
 returns c =
     let e : c .before .loop .i ≡ c .before .before .args .n = omega arith in

@@ -9,28 +9,19 @@ use Rattle.evaluate.specs.Run.{combined}
 use borrow.Author.Needs.{needs}
 use Rattle.evaluate.proofs.combine.Statement.{statement}
 use Rattle.evaluate.proofs.combine.Tie as tie
-use Rattle.evaluate.proofs.combine.Reads as reads
-use Rattle.evaluate.proofs.combine.Lts as lts
-use Rattle.std.proofs.num.wrapping_add_u64.Reads as wrapping-add-u64-reads
-use Rattle.std.proofs.num.wrapping_sub_u64.Reads as wrapping-sub-u64-reads
-use Rattle.words.proofs.wrapping_mul.Reads as wrapping-mul-reads
 
--- src/lib.rt:70:9
 wrapping-add-u64-requires : tie.Need-wrapping-add-u64-requires
 wrapping-add-u64-requires c κs = search needs
 
--- src/lib.rt:70:9
 returns : tie.Need-returns
 unfolding combined
 returns c a b l r =
     rw (eq-eqb _ 3 (c .before .if1 .taken))
     (c .wrapping-add-u64 .ensures ∙ ap₂ (λ u v. (u + v) % 2 ^ 64) l r ∙ word-add a b)
 
--- src/lib.rt:73:9
 wrapping-sub-u64-requires : tie.Need-wrapping-sub-u64-requires
 wrapping-sub-u64-requires c κs = search needs
 
--- src/lib.rt:73:9
 returns-2 : tie.Need-returns-2
 unfolding combined
 returns-2 c a b l r =
@@ -38,11 +29,9 @@ returns-2 c a b l r =
     (word-sub (c .wrapping-sub-u64 .result) a b (omega arith)
     (ap (λ v. (c .wrapping-sub-u64 .result + v) % 2 ^ 64) (sym r) ∙ c .wrapping-sub-u64 .ensures ∙ l))
 
--- src/lib.rt:75:5
 wrapping-mul-requires : tie.Need-wrapping-mul-requires
 wrapping-mul-requires c κs = search needs
 
--- src/lib.rt:66:1
 returns-3 : tie.Need-returns-3
 unfolding combined
 returns-3 c a b l r =

@@ -15,12 +15,6 @@ use Rattle.evaluate.proofs.Answers.{Passed, passed, vector-long, answer
 use borrow.Author.Needs.{needs}
 use Rattle.evaluate.proofs.evaluate.Statement.{statement}
 use Rattle.evaluate.proofs.evaluate.Tie as tie
-use Rattle.evaluate.proofs.evaluate.Reads as reads
-use Rattle.evaluate.proofs.evaluate.Lts as lts
-use Rattle.evaluate.proofs.clear.Reads as clear-reads
-use Rattle.evaluate.proofs.output_at.Reads as output-at-reads
-use Rattle.evaluate.proofs.refusal_at.Reads as refusal-at-reads
-use Rattle.file.proofs.fields.step_count.Reads as step-count-reads
 
 answer : Refusal → ℕ → Evaluated
 answer r o = record { refusal = r; output = o }
@@ -40,11 +34,9 @@ free c = passed _ _ _ (sym (number (c .before)) ∙ c .if1 .left)
 rules : (c : tie.Else1) → Accepted (now (c .before .before .before .before .before .args .file))
 rules c = accepted _ (free c .sound)
 
--- src/lib.rt:143:9
 refusal-at-requires : tie.Need-refusal-at-requires
 refusal-at-requires c κs = search needs
 
--- src/lib.rt:146:9
 returns : tie.Need-returns
 unfolding answer
 returns c =
@@ -52,11 +44,9 @@ returns c =
     let w = answer-refused (now (a .file)) (now (a .vector)) (now (a .scratch)) (λ e. c .if1 .taken (number (c .before) ∙ e)) in
     (ap (λ r. answer r 0) (c .before .refusal-at .ensures) ∙ w .0, w .1)
 
--- src/lib.rt:148:9
 step-count-requires : tie.Need-step-count-requires
 step-count-requires c κs = rules c .long
 
--- src/lib.rt:149:9
 output-at-requires : tie.Need-output-at-requires
 output-at-requires c κs =
     let g = c .before .before in
@@ -67,7 +57,6 @@ output-at-requires c κs =
       room = omega (arith, free g .room, c .before .step-count .ensures .0);
     }
 
--- src/lib.rt:150:5
 clear-requires : tie.Need-clear-requires
 clear-requires c κs =
     omega (
@@ -77,11 +66,9 @@ clear-requires c κs =
       c .before .before .before .output-at .kept .1 .1 .1 .0,
     )
 
--- src/lib.rt:140:1
 same-length : tie.Need-same-length
 same-length c = search needs
 
--- src/lib.rt:140:1
 returns-2 : tie.Need-returns-2
 unfolding answer
 returns-2 c =

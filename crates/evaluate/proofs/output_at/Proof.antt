@@ -16,44 +16,31 @@ use Rattle.evaluate.proofs.Words.{output-word}
 use borrow.Author.Needs.{needs}
 use Rattle.evaluate.proofs.output_at.Statement.{statement}
 use Rattle.evaluate.proofs.output_at.Tie as tie
-use Rattle.evaluate.proofs.output_at.Reads as reads
-use Rattle.evaluate.proofs.output_at.Lts as lts
-use Rattle.evaluate.proofs.run.Reads as run-reads
-use Rattle.words.proofs.cut.Reads as cut-reads
 
--- src/lib.rt:115:5
 run-requires : tie.Need-run-requires
 run-requires c κs = search needs
 
--- src/lib.rt:116:13
 shared-slice-read-m : tie.Need-shared-slice-read-m
 shared-slice-read-m c = search needs
 
--- src/lib.rt:116:13
 cast-m : tie.Need-cast-m
 cast-m c = omega (arith, c .shared-slice-known3 .given 0)
 
--- src/lib.rt:117:17
 sub-cut : tie.Need-sub-cut
 sub-cut c = search needs
 
--- src/lib.rt:117:9
 mul-cut : tie.Need-mul-cut
 mul-cut c = search needs
 
--- src/lib.rt:117:9
 slice-read-cut : tie.Need-slice-read-cut
 slice-read-cut c = search needs
 
--- src/lib.rt:117:5
 cut-requires : tie.Need-cut-requires
 cut-requires c κs = search needs
 
--- src/lib.rt:111:1
 same-length : tie.Need-same-length
 same-length c = search needs
 
--- src/lib.rt:111:1
 returns : tie.Need-returns
 unfolding sizesOf
 returns c =

@@ -15,13 +15,6 @@ use Rattle.evaluate.proofs.Answers.{at-file, at-12, at-14, at-0}
 use borrow.Author.Needs.{needs}
 use Rattle.evaluate.proofs.refusal_at.Statement.{statement}
 use Rattle.evaluate.proofs.refusal_at.Tie as tie
-use Rattle.evaluate.proofs.refusal_at.Reads as reads
-use Rattle.evaluate.proofs.refusal_at.Lts as lts
-use Rattle.evaluate.proofs.bad_vector.Reads as bad-vector-reads
-use Rattle.file.proofs.check.Reads as check-reads
-use Rattle.file.proofs.fields.read_sizes.Reads as read-sizes-reads
-use Rattle.file.proofs.fields.step_count.Reads as step-count-reads
-use Rattle.sizes.proofs.refused_by.Reads as refused-by-reads
 
 number : (c : tie.After-check) → c .check .result .number ≡ fileNumber (now (c .before .before .before .args .file))
 number c = ap (λ (r : Refusal). r .number) (c .check .ensures) ∙ refusal-number _ 1
@@ -38,50 +31,39 @@ vector-test :
 vector-test c =
     ap (λ (z : Sizes). badVector z (now (c .before .before .before .before .before .before .before .before .args .vector))) (sym (c .before .read-sizes .ensures)) ∙ sym (c .bad-vector .ensures)
 
--- src/lib.rt:124:9
 check-requires : tie.Need-check-requires
 check-requires c κs = search needs
 
--- src/lib.rt:127:9
 returns : tie.Need-returns
 returns c = c .before .check .ensures ∙ sym (at-file _ _ _ (λ e. c .if1 .taken (number (c .before) ∙ e)))
 
--- src/lib.rt:129:15
 step-count-requires : tie.Need-step-count-requires
 step-count-requires c κs = rules c .long
 
--- src/lib.rt:130:9
 refused-by-requires : tie.Need-refused-by-requires
 refused-by-requires c κs = search needs
 
--- src/lib.rt:130:9
 returns-2 : tie.Need-returns-2
 returns-2 c = c .refused-by .ensures ∙ sym (at-12 _ _ _ (sound (c .before .before .before)) (omega (arith, c .before .if2 .taken, c .before .before .step-count .ensures)))
 
--- src/lib.rt:132:19
 read-sizes-requires : tie.Need-read-sizes-requires
 read-sizes-requires c κs = rules (c .before .before) .long
 
--- src/lib.rt:132:8
 bad-vector-requires : tie.Need-bad-vector-requires
 bad-vector-requires c κs =
     omega (arith, rules (c .before .before .before) .inputsHigh, ap (λ (z : Sizes). z .d) (c .read-sizes .ensures))
 
--- src/lib.rt:133:9
 refused-by-requires-2 : tie.Need-refused-by-requires-2
 refused-by-requires-2 c κs = search needs
 
--- src/lib.rt:133:9
 returns-3 : tie.Need-returns-3
 returns-3 c =
     c .refused-by2 .ensures
     ∙ sym (at-14 _ _ _ (sound (c .before .before .before .before .before .before)) (omega (arith, c .before .before .before .before .if2 .left, c .before .before .before .before .before .step-count .ensures)) (vector-test (c .before .before) ∙ c .before .if3 .taken))
 
--- src/lib.rt:135:5
 refused-by-requires-3 : tie.Need-refused-by-requires-3
 refused-by-requires-3 c κs = search needs
 
--- src/lib.rt:121:1
 returns-4 : tie.Need-returns-4
 returns-4 c =
     c .refused-by3 .ensures

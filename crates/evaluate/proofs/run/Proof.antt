@@ -18,9 +18,6 @@ use Rattle.words.specs.Words.{word}
 use Rattle.evaluate.specs.Run.{Ready, Running}
 use Rattle.evaluate.proofs.run.Statement.{statement}
 use Rattle.evaluate.proofs.run.Tie as tie
-use Rattle.evaluate.proofs.run.Reads as reads
-use Rattle.evaluate.proofs.run.Lts as lts
-use Rattle.evaluate.proofs.step_word.Reads as step-word-reads
 
 record Held (s : List ℕ) (n : ℕ) (x scratch₀ scratch : List ℕ) (k : ℕ) : Type 0 where
   within : k ≤ n
@@ -66,40 +63,31 @@ Inv-loop file n vector scratch₀ k₀ scratch k = Held file n vector scratch₀
 abbrev μ-loop : tie.MeasureT-loop
 μ-loop file n vector scratch₀ k₀ scratch k = n - k
 
--- src/lib.rt:103:5
 loop-holds : tie.Need-loop-holds Inv-loop μ-loop
 unfolding values
 loop-holds c = record { within = omega arith; long = refl; held = refl }
 
--- src/lib.rt:104:13
 step-word-requires : tie.Need-step-word-requires Inv-loop μ-loop
 step-word-requires c κs = (running _ _ _ _ _ _ (c .before .before .before .before .before .before .pre) (c .before .before .loop .inv), c .before .loop-test .taken)
 
--- src/lib.rt:105:9
 mul-scratch : tie.Need-mul-scratch Inv-loop μ-loop
 mul-scratch c = search needs
 
--- src/lib.rt:105:9
 slice-write-scratch : tie.Need-slice-write-scratch Inv-loop μ-loop
 slice-write-scratch c = search needs
 
--- src/lib.rt:106:9
 add-k : tie.Need-add-k Inv-loop μ-loop
 add-k c = search needs
 
--- src/lib.rt:103:5
 loop-less : tie.Need-loop-less Inv-loop μ-loop
 loop-less c = search needs
 
--- src/lib.rt:103:5
 loop-again : tie.Need-loop-again Inv-loop μ-loop
 loop-again c = more _ _ _ _ _ _ (c .before .before .before .before .before .before .before .pre) (c .before .before .before .loop .inv) _ (c .before .before .loop-test .taken) (c .step-word .ensures)
 
--- src/lib.rt:98:1
 same-length : tie.Need-same-length Inv-loop μ-loop
 same-length c = search needs
 
--- src/lib.rt:98:1
 returns : tie.Need-returns Inv-loop μ-loop
 returns c =
     let e : c .before .loop .k ≡ c .before .before .before .before .before .args .n = omega (arith, c .before .loop .inv .within) in

@@ -17,13 +17,6 @@ use Rattle.evaluate.proofs.Words.{operand-word, input-word, constant-wo
 use borrow.Author.Needs.{needs}
 use Rattle.evaluate.proofs.step_word.Statement.{statement}
 use Rattle.evaluate.proofs.step_word.Tie as tie
-use Rattle.evaluate.proofs.step_word.Reads as reads
-use Rattle.evaluate.proofs.step_word.Lts as lts
-use Rattle.evaluate.proofs.combine.Reads as combine-reads
-use Rattle.file.proofs.fields.argument.Reads as argument-reads
-use Rattle.file.proofs.fields.left_operand.Reads as left-operand-reads
-use Rattle.file.proofs.fields.operation.Reads as operation-reads
-use Rattle.file.proofs.fields.right_operand.Reads as right-operand-reads
 
 -- an input's index is below d
 index : (c : tie.Then1) → c .before .argument .result < length (now (c .before .before .before .before .before .before .args .vector))
@@ -51,57 +44,45 @@ operands c =
     omega (arith, sound .operationLow k h, c .before .before .before .operation .ensures .0, c .if2 .left, c .before .if1 .left) in
     record { low = low; high = sound .operationHigh k h; left = sound .leftBefore k h low; right = sound .rightBefore k h low }
 
--- src/lib.rt:84:9
 operation-requires : tie.Need-operation-requires
 operation-requires c κs = search needs
 
--- src/lib.rt:85:9
 argument-requires : tie.Need-argument-requires
 argument-requires c κs = search needs
 
--- src/lib.rt:87:16
 mul-result : tie.Need-mul-result
 mul-result c = omega (arith, index c)
 
--- src/lib.rt:87:16
 shared-slice-read-result : tie.Need-shared-slice-read-result
 shared-slice-read-result c = index (c .before)
 
--- src/lib.rt:87:9
 returns : tie.Need-returns
 returns c =
     input-word _ _ _ _ _ (sym (c .before .before .before .operation .ensures .0) ∙ c .before .if1 .taken)
     (ap (λ i. getD (now (c .before .before .before .before .before .before .before .args .vector)) i 0) (c .before .before .argument .ensures .0))
     (omega (arith, c .shared-slice-known4 .given (c .before .before .argument .result)))
 
--- src/lib.rt:90:9
 returns-2 : tie.Need-returns-2
 returns-2 c =
     constant-word _ _ _ _ _ (sym (c .before .before .before .operation .ensures .0) ∙ c .if2 .taken) (c .before .before .argument .ensures .0)
     (c .before .before .argument .ensures .1)
 
--- src/lib.rt:92:24
 left-operand-requires : tie.Need-left-operand-requires
 left-operand-requires c κs = search needs
 
--- src/lib.rt:92:16
 mul-left : tie.Need-mul-left
 mul-left c = search needs
 
--- src/lib.rt:92:16
 shared-slice-read-left : tie.Need-shared-slice-read-left
 shared-slice-read-left c =
     omega (arith, operands (c .before .before) .left, c .before .left-operand .ensures .0, ap leftOperand (c .before .before .before .before .argument .ensures .0))
 
--- src/lib.rt:93:25
 right-operand-requires : tie.Need-right-operand-requires
 right-operand-requires c κs = search needs
 
--- src/lib.rt:93:17
 mul-right : tie.Need-mul-right
 mul-right c = search needs
 
--- src/lib.rt:93:17
 shared-slice-read-right : tie.Need-shared-slice-read-right
 shared-slice-read-right c =
     omega (
@@ -111,11 +92,9 @@ shared-slice-read-right c =
       ap rightOperand (c .before .before .before .before .before .before .argument .ensures .0),
     )
 
--- src/lib.rt:94:5
 combine-requires : tie.Need-combine-requires
 combine-requires c κs = search needs
 
--- src/lib.rt:79:1
 returns-3 : tie.Need-returns-3
 returns-3 c =
     let o = operands (c .before .before .before .before .before) in

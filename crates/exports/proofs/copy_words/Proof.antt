@@ -11,8 +11,6 @@ use lib.Seq.{take-suc, take-all, drop-drop, length-take-le}
 use Rattle.lists.proofs.Lists.{set-front}
 use Rattle.exports.proofs.copy_words.Statement.{statement}
 use Rattle.exports.proofs.copy_words.Tie as tie
-use Rattle.exports.proofs.copy_words.Reads as reads
-use Rattle.exports.proofs.copy_words.Lts as lts
 
 record Copied (out₀ words out : List ℕ) (i : ℕ) : Type 0 where
   within : i ≤ length words
@@ -45,43 +43,33 @@ Inv-loop out₀ words i₀ out i = Copied out₀ words out i
 abbrev μ-loop : tie.MeasureT-loop
 μ-loop out₀ words i₀ out i = length words - i
 
--- src/lib.rt:22:5
 loop-holds : tie.Need-loop-holds Inv-loop μ-loop
 loop-holds c = record { within = omega arith; long = c .pre; copied = refl }
 
--- src/lib.rt:23:18
 mul-out : tie.Need-mul-out Inv-loop μ-loop
 mul-out c = search needs
 
--- src/lib.rt:23:18
 shared-slice-read-out : tie.Need-shared-slice-read-out Inv-loop μ-loop
 shared-slice-read-out c = search needs
 
--- src/lib.rt:23:9
 mul-out-2 : tie.Need-mul-out-2 Inv-loop μ-loop
 mul-out-2 c = search needs
 
--- src/lib.rt:23:9
 slice-write-out : tie.Need-slice-write-out Inv-loop μ-loop
 slice-write-out c = search needs
 
--- src/lib.rt:24:9
 add-i : tie.Need-add-i Inv-loop μ-loop
 add-i c = search needs
 
--- src/lib.rt:22:5
 loop-less : tie.Need-loop-less Inv-loop μ-loop
 loop-less c = search needs
 
--- src/lib.rt:22:5
 loop-again : tie.Need-loop-again Inv-loop μ-loop
 loop-again c = more _ _ _ _ (c .before .before .before .pre) (c .before .before .loop .inv) (c .before .loop-test .taken)
 
--- src/lib.rt:17:1
 same-length : tie.Need-same-length Inv-loop μ-loop
 same-length c = search needs
 
--- src/lib.rt:17:1
 returns : tie.Need-returns Inv-loop μ-loop
 returns c = whole _ _ _ _ (c .before .before .pre) (c .before .loop .inv) (c .loop-test .left)
 

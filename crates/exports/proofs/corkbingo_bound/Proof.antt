@@ -9,55 +9,39 @@ use Rattle.exports.proofs.Answered.{untouched, written, bound-refused, 
 use borrow.Author.Needs.{needs}
 use Rattle.exports.proofs.corkbingo_bound.Statement.{statement}
 use Rattle.exports.proofs.corkbingo_bound.Tie as tie
-use Rattle.exports.proofs.corkbingo_bound.Reads as reads
-use Rattle.exports.proofs.corkbingo_bound.Lts as lts
-use Rattle.bound.proofs.bound.Reads as bound-reads
-use Rattle.exports.proofs.copy_words.Reads as copy-words-reads
-use Rattle.sizes.proofs.within.Reads as within-reads
 
--- src/lib.rt:62:9
 returns : tie.Need-returns
 returns c = untouched _ _ (c .if1 .taken) _
 
--- src/lib.rt:64:9
 within-requires : tie.Need-within-requires
 within-requires c κs = search needs
 
--- src/lib.rt:65:25
 slice-aggregate-copy-words : tie.Need-slice-aggregate-copy-words
 slice-aggregate-copy-words c = search needs
 
--- src/lib.rt:65:9
 copy-words-requires : tie.Need-copy-words-requires
 copy-words-requires c κs = search needs
 
--- src/lib.rt:66:9
 same-length : tie.Need-same-length
 same-length c = search needs
 
--- src/lib.rt:66:9
 returns-2 : tie.Need-returns-2
 returns-2 c =
     written 4 (now (c .before .before .before .before .before .before .before .before .before .args .out)) (c .before .before .before .before .before .before .before .if1 .left)
     (c .before .before .copy-words .ensures ∙ sym (bound-refused (c .before .before .before .before .before .before .before .before .before .args .m) (sym (c .before .before .before .before .before .before .within .ensures) ∙ not-true _ (c .before .before .before .before .before .if2 .taken))))
 
--- src/lib.rt:68:32
 bound-requires : tie.Need-bound-requires
 bound-requires c κs = within-range 1 64 _ (sym (c .before .before .within .ensures) ∙ not-false _ (c .before .if2 .left))
 
--- src/lib.rt:68:21
 slice-aggregate-copy-words-2 : tie.Need-slice-aggregate-copy-words-2
 slice-aggregate-copy-words-2 c = search needs
 
--- src/lib.rt:68:5
 copy-words-requires-2 : tie.Need-copy-words-requires-2
 copy-words-requires-2 c κs = search needs
 
--- src/lib.rt:57:1
 same-length-2 : tie.Need-same-length-2
 same-length-2 c = search needs
 
--- src/lib.rt:57:1
 returns-3 : tie.Need-returns-3
 returns-3 c =
     written 4 (now (c .before .before .before .before .before .before .before .before .before .before .args .out)) (c .before .before .before .before .before .before .before .before .if1 .left)

@@ -7,32 +7,22 @@ use Rattle.exports.proofs.Answered.{untouched, written}
 use borrow.Author.Needs.{needs}
 use Rattle.exports.proofs.corkbingo_check.Statement.{statement}
 use Rattle.exports.proofs.corkbingo_check.Tie as tie
-use Rattle.exports.proofs.corkbingo_check.Reads as reads
-use Rattle.exports.proofs.corkbingo_check.Lts as lts
-use Rattle.exports.proofs.copy_words.Reads as copy-words-reads
-use Rattle.file.proofs.check.Reads as check-reads
 
--- src/lib.rt:34:9
 returns : tie.Need-returns
 returns c = untouched _ _ (c .if1 .taken) _
 
--- src/lib.rt:36:9
 check-requires : tie.Need-check-requires
 check-requires c κs = search needs
 
--- src/lib.rt:37:21
 slice-aggregate-copy-words : tie.Need-slice-aggregate-copy-words
 slice-aggregate-copy-words c = search needs
 
--- src/lib.rt:37:5
 copy-words-requires : tie.Need-copy-words-requires
 copy-words-requires c κs = search needs
 
--- src/lib.rt:29:1
 same-length : tie.Need-same-length
 same-length c = search needs
 
--- src/lib.rt:29:1
 returns-2 : tie.Need-returns-2
 returns-2 c = written 3 (now (c .before .before .before .before .before .before .before .before .before .args .out)) (c .before .before .before .before .before .before .if1 .left) (c .before .before .copy-words .ensures ∙ ap refusalWords (c .before .before .before .before .before .check .ensures))
 

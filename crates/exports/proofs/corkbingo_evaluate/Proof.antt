@@ -8,39 +8,28 @@ use Rattle.exports.proofs.Answered.{untouched, written}
 use borrow.Author.Needs.{needs}
 use Rattle.exports.proofs.corkbingo_evaluate.Statement.{statement}
 use Rattle.exports.proofs.corkbingo_evaluate.Tie as tie
-use Rattle.exports.proofs.corkbingo_evaluate.Reads as reads
-use Rattle.exports.proofs.corkbingo_evaluate.Lts as lts
-use Rattle.evaluate.proofs.evaluate.Reads as evaluate-reads
-use Rattle.exports.proofs.copy_words.Reads as copy-words-reads
 
--- src/lib.rt:99:9
 returns : tie.Need-returns
 unfolding evaluateScratch
 returns c =
     let w = untouched _ _ (c .if1 .taken) _ in
     (w .0, w .1, rw (ne-eqb _ 4 (c .if1 .taken)))
 
--- src/lib.rt:101:9
 evaluate-requires : tie.Need-evaluate-requires
 evaluate-requires c κs = search needs
 
--- src/lib.rt:103:21
 slice-aggregate-copy-words : tie.Need-slice-aggregate-copy-words
 slice-aggregate-copy-words c = search needs
 
--- src/lib.rt:103:5
 copy-words-requires : tie.Need-copy-words-requires
 copy-words-requires c κs = search needs
 
--- src/lib.rt:94:1
 same-length : tie.Need-same-length
 same-length c = search needs
 
--- src/lib.rt:94:1
 same-length-2 : tie.Need-same-length-2
 same-length-2 c = search needs
 
--- src/lib.rt:94:1
 returns-2 : tie.Need-returns-2
 unfolding evaluateScratch
 returns-2 c =

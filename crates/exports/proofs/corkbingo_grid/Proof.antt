@@ -17,14 +17,7 @@ use Rattle.exports.proofs.Answered.{untouched, written, grid-refused, g
 use borrow.Author.Needs.{needs}
 use Rattle.exports.proofs.corkbingo_grid.Statement.{statement}
 use Rattle.exports.proofs.corkbingo_grid.Tie as tie
-use Rattle.exports.proofs.corkbingo_grid.Reads as reads
-use Rattle.exports.proofs.corkbingo_grid.Lts as lts
-use Rattle.exports.proofs.copy_words.Reads as copy-words-reads
-use Rattle.file.proofs.check.Reads as check-reads
-use Rattle.file.proofs.fields.read_sizes.Reads as read-sizes-reads
-use Rattle.grid.proofs.grid_of.Reads as grid-of-reads
 
--- src/lib.rt:78:9
 number : (c : tie.After-check) → c .check .result .number ≡ fileNumber (now (c .before .before .before .before .args .file))
 number c = ap (λ (r : Refusal). r .number) (c .check .ensures) ∙ refusal-number _ 1
 
@@ -34,23 +27,18 @@ rules c = accepted _ (sym (number (c .before)) ∙ c .if2 .left)
 returns : tie.Need-returns
 returns c = untouched _ _ (c .if1 .taken) _
 
--- src/lib.rt:80:9
 check-requires : tie.Need-check-requires
 check-requires c κs = search needs
 
--- src/lib.rt:83:25
 slice-aggregate-copy-words : tie.Need-slice-aggregate-copy-words
 slice-aggregate-copy-words c = search needs
 
--- src/lib.rt:83:9
 copy-words-requires : tie.Need-copy-words-requires
 copy-words-requires c κs = search needs
 
--- src/lib.rt:84:9
 same-length : tie.Need-same-length
 same-length c = search needs
 
--- src/lib.rt:84:9
 returns-2 : tie.Need-returns-2
 returns-2 c =
     written 12 (now (c .before .before .before .before .before .before .before .before .before .before .args .out)) (c .before .before .before .before .before .before .before .if1 .left)
@@ -58,11 +46,9 @@ returns-2 c =
     ∙ ap (λ r. refusalWords r ++ (0 ∷ 0 ∷ 0 ∷ 0 ∷ 0 ∷ 0 ∷ 0 ∷ 0 ∷ 0 ∷ [])) (c .before .before .before .before .before .before .check .ensures)
     ∙ sym (grid-refused _ (λ e. c .before .before .before .before .before .if2 .taken (number (c .before .before .before .before .before .before) ∙ e))))
 
--- src/lib.rt:86:21
 read-sizes-requires : tie.Need-read-sizes-requires
 read-sizes-requires c κs = rules c .long
 
--- src/lib.rt:86:9
 grid-of-requires : tie.Need-grid-of-requires
 grid-of-requires c κs =
     let a = rules (c .before) in
@@ -71,51 +57,39 @@ grid-of-requires c κs =
       omega (arith, a .inputsHigh, ap (λ (z : Sizes). z .d) z),
     )
 
--- src/lib.rt:88:32
 array-read-t22 : tie.Need-array-read-t22
 array-read-t22 c = search needs
 
--- src/lib.rt:88:38
 array-read-t25 : tie.Need-array-read-t25
 array-read-t25 c = search needs
 
--- src/lib.rt:88:44
 array-read-t28 : tie.Need-array-read-t28
 array-read-t28 c = search needs
 
--- src/lib.rt:88:50
 array-read-t31 : tie.Need-array-read-t31
 array-read-t31 c = search needs
 
--- src/lib.rt:88:56
 array-read-t34 : tie.Need-array-read-t34
 array-read-t34 c = search needs
 
--- src/lib.rt:88:62
 array-read-t37 : tie.Need-array-read-t37
 array-read-t37 c = search needs
 
--- src/lib.rt:88:68
 array-read-t40 : tie.Need-array-read-t40
 array-read-t40 c = search needs
 
--- src/lib.rt:88:74
 array-read-t43 : tie.Need-array-read-t43
 array-read-t43 c = search needs
 
--- src/lib.rt:88:21
 slice-aggregate-copy-words-2 : tie.Need-slice-aggregate-copy-words-2
 slice-aggregate-copy-words-2 c = search needs
 
--- src/lib.rt:88:5
 copy-words-requires-2 : tie.Need-copy-words-requires-2
 copy-words-requires-2 c κs = search needs
 
--- src/lib.rt:73:1
 same-length-2 : tie.Need-same-length-2
 same-length-2 c = search needs
 
--- src/lib.rt:73:1
 returns-3 : tie.Need-returns-3
 returns-3 c =
     let g = c .before .before .before .before .before .before .grid-of in

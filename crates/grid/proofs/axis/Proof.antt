@@ -11,29 +11,22 @@ use Rattle.grid.proofs.Axes.{axis-wide}
 use borrow.Author.Needs.{needs}
 use Rattle.grid.proofs.axis.Statement.{statement}
 use Rattle.grid.proofs.axis.Tie as tie
-use Rattle.grid.proofs.axis.Reads as reads
-use Rattle.grid.proofs.axis.Lts as lts
-use Rattle.bound.proofs.bound.Reads as bound-reads
 
 narrow : (n : ℕ) → n < 7 → 1 * 2 ^ n % 2 ^ 64 ≡ 2 ^ n
 narrow n h = mod-eq-of-lt (omega (arith, one-mul (2 ^ n), pow-lt h)) ∙ one-mul (2 ^ n)
 
--- src/lib.rt:21:9
 bound-requires : tie.Need-bound-requires
 bound-requires c κs = search needs
 
--- src/lib.rt:23:9
 returns : tie.Need-returns
 returns c =
     let a = c .before .before .args in
     let e = axis-wide (a .m) (c .before .before .pre .0) (c .before .before .pre .1) (a .n) (c .if1 .taken) in
     (cc, omega (arith, bound-most (a .m) (c .before .before .pre .0) (c .before .before .pre .1)))
 
--- src/lib.rt:25:15
 shl-all : tie.Need-shl-all
 shl-all c = search needs
 
--- src/lib.rt:17:1
 returns-2 : tie.Need-returns-2
 unfolding axis
 returns-2 c =
@@ -42,7 +35,6 @@ returns-2 c =
     let e = narrow (a .n) (c .before .if1 .left) in
     (e ∙ sym (min-eq-left (omega (arith, c .if2 .taken, e))), omega (arith, e, bound-most (a .m) (p .0) (p .1)))
 
--- src/lib.rt:17:1
 returns-3 : tie.Need-returns-3
 unfolding axis
 returns-3 c =

@@ -14,9 +14,6 @@ use Rattle.places.specs.Places as Places
 use Rattle.places.specs.Places.{size}
 use Rattle.grid.proofs.grid_of.Statement.{statement}
 use Rattle.grid.proofs.grid_of.Tie as tie
-use Rattle.grid.proofs.grid_of.Reads as reads
-use Rattle.grid.proofs.grid_of.Lts as lts
-use Rattle.grid.proofs.axis.Reads as axis-reads
 
 -- i axes are in their place, and their product is the size
 record Filled (m d : ℕ) (widths axes : List ℕ) (size i : ℕ) : Type 0 where
@@ -69,41 +66,32 @@ next c =
     more (z .m) (z .d) (z .widths) (l .axes) (l .size) (l .i) (l .inv) (c .axis .result)
     (c .before .before .before .before .before .before .pre .1) (c .before .loop-test .taken) (c .axis .ensures .0)
 
--- src/lib.rt:39:13
 cast-m : tie.Need-cast-m Inv-loop μ-loop
 cast-m c = search needs
 
--- src/lib.rt:40:13
 cast-d : tie.Need-cast-d Inv-loop μ-loop
 cast-d c = search needs
 
--- src/lib.rt:45:5
 loop-holds : tie.Need-loop-holds Inv-loop μ-loop
 unfolding size
 loop-holds c =
     record { known = search needs; within = omega arith; filled = refl; sized = refl }
 
--- src/lib.rt:46:25
 array-read-axis : tie.Need-array-read-axis Inv-loop μ-loop
 array-read-axis c = search needs
 
--- src/lib.rt:46:25
 cast-axis : tie.Need-cast-axis Inv-loop μ-loop
 cast-axis c = search needs
 
--- src/lib.rt:46:13
 axis-requires : tie.Need-axis-requires Inv-loop μ-loop
 axis-requires c κs = search needs
 
--- src/lib.rt:47:9
 mul-axes : tie.Need-mul-axes Inv-loop μ-loop
 mul-axes c = search needs
 
--- src/lib.rt:47:9
 array-write-axes : tie.Need-array-write-axes Inv-loop μ-loop
 array-write-axes c = search needs
 
--- src/lib.rt:48:16
 mul-size : tie.Need-mul-size Inv-loop μ-loop
 mul-size c =
     let z = c .before .before .before .before .before .before .args .z in
@@ -112,19 +100,15 @@ mul-size c =
     let f = next c in
     record { fits = subst (λ n. n < 2 ^ 64) (sym (f .sized)) (size-fits (z .m) (p .0 .0) (p .0 .1) (take (i + 1) (z .widths)) (rw length-take (omega (arith, p .1, f .within)))) }
 
--- src/lib.rt:49:9
 add-i : tie.Need-add-i Inv-loop μ-loop
 add-i c = search needs
 
--- src/lib.rt:45:5
 loop-less : tie.Need-loop-less Inv-loop μ-loop
 loop-less c = search needs
 
--- src/lib.rt:45:5
 loop-again : tie.Need-loop-again Inv-loop μ-loop
 loop-again c = next c
 
--- src/lib.rt:34:1
 returns : tie.Need-returns Inv-loop μ-loop
 unfolding gridOf gridSize axesOf
 returns c =

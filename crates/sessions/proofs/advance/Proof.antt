@@ -15,15 +15,6 @@ use Rattle.sessions.proofs.Cases.{handed, advanced-differs, advanced-eq
 use borrow.Author.Needs.{needs}
 use Rattle.sessions.proofs.advance.Statement.{statement}
 use Rattle.sessions.proofs.advance.Tie as tie
-use Rattle.sessions.proofs.advance.Reads as reads
-use Rattle.sessions.proofs.advance.Lts as lts
-use Rattle.engine.proofs.first_difference.Reads as first-difference-reads
-use Rattle.file.proofs.fields.read_sizes.Reads as read-sizes-reads
-use Rattle.grid.proofs.grid_of.Reads as grid-of-reads
-use Rattle.sessions.proofs.differs_answer.Reads as differs-answer-reads
-use Rattle.sessions.proofs.moved.Reads as moved-reads
-use Rattle.sessions.proofs.plain_answer.Reads as plain-answer-reads
-use Rattle.sessions.proofs.smaller.Reads as smaller-reads
 
 sized : (c : tie.After-grid-of) → c .grid-of .result .size ≡ gridSize (sizesOf (now (c .before .before .before .before .before .args .file1)))
 unfolding gridOf
@@ -39,11 +30,9 @@ low c =
       first-low (outputsDiffer (now (a .file1)) (now (a .file2))) (a .session .position) (c .before .before .smaller .result),
     )
 
--- src/lib.rt:292:24
 read-sizes-requires : tie.Need-read-sizes-requires
 read-sizes-requires c κs = search needs
 
--- src/lib.rt:292:16
 grid-of-requires : tie.Need-grid-of-requires
 grid-of-requires c κs =
     let a = c .before .before .before .before .pre .0 .sound₁ in
@@ -52,33 +41,26 @@ grid-of-requires c κs =
       omega (arith, a .inputsHigh, ap (λ (z : Sizes). z .d) z),
     )
 
--- src/lib.rt:294:16
 sub-left : tie.Need-sub-left
 sub-left c = omega (arith, sized c, c .before .before .before .before .before .pre .1 .0)
 
--- src/lib.rt:295:9
 smaller-requires : tie.Need-smaller-requires
 smaller-requires c κs = search needs
 
--- src/lib.rt:296:9
 first-difference-requires : tie.Need-first-difference-requires
 first-difference-requires c κs =
     let p = c .before .before .before .before .before .before .before .pre in
     (p .0, (omega (arith, sized (c .before .before), p .1 .0, c .before .smaller .ensures), p .1 .1))
 
--- src/lib.rt:297:16
 add-if1 : tie.Need-add-if1
 add-if1 c = search needs
 
--- src/lib.rt:298:58
 add-differs-answer : tie.Need-add-differs-answer
 add-differs-answer c = search needs
 
--- src/lib.rt:298:58
 sub-differs-answer : tie.Need-sub-differs-answer
 sub-differs-answer c = omega (arith, low (c .before .before .before))
 
--- src/lib.rt:298:13
 differs-answer-requires : tie.Need-differs-answer-requires
 differs-answer-requires c κs =
     let p = c .before .before .before .before .before .before .before .before .before .before .before .before .pre in (
@@ -89,19 +71,15 @@ differs-answer-requires c κs =
       ),
     )
 
--- src/lib.rt:299:38
 add-moved : tie.Need-add-moved
 add-moved c = omega (arith, c .before .before .before .before)
 
--- src/lib.rt:299:13
 moved-requires : tie.Need-moved-requires
 moved-requires c κs = search needs
 
--- src/lib.rt:300:9
 same-length : tie.Need-same-length
 same-length c = search needs
 
--- src/lib.rt:300:9
 returns : tie.Need-returns
 returns c =
     let a = c .before .before .before .before .before .before .before .before .before .before .before .before .before .before .before .before .args in
@@ -113,19 +91,15 @@ returns c =
       d .1 ∙ f .first-difference .ensures .1,
     )
 
--- src/lib.rt:303:13
 plain-answer-requires : tie.Need-plain-answer-requires
 plain-answer-requires c κs = search needs
 
--- src/lib.rt:304:13
 moved-requires-2 : tie.Need-moved-requires-2
 moved-requires-2 c κs = search needs
 
--- src/lib.rt:305:9
 same-length-2 : tie.Need-same-length-2
 same-length-2 c = search needs
 
--- src/lib.rt:305:9
 returns-2 : tie.Need-returns-2
 returns-2 c =
     let a = c .before .before .before .before .before .before .before .before .before .before .before .before .before .before .args in
@@ -137,23 +111,18 @@ returns-2 c =
       f .first-difference .ensures .1,
     )
 
--- src/lib.rt:307:9
 plain-answer-requires-2 : tie.Need-plain-answer-requires-2
 plain-answer-requires-2 c κs = search needs
 
--- src/lib.rt:308:34
 add-moved-2 : tie.Need-add-moved-2
 add-moved-2 c = search needs
 
--- src/lib.rt:308:9
 moved-requires-3 : tie.Need-moved-requires-3
 moved-requires-3 c κs = search needs
 
--- src/lib.rt:286:1
 same-length-3 : tie.Need-same-length-3
 same-length-3 c = search needs
 
--- src/lib.rt:286:1
 returns-3 : tie.Need-returns-3
 returns-3 c =
     let a = c .before .before .before .before .before .before .before .before .before .before .before .before .before .before .args in

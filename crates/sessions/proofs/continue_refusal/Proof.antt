@@ -16,15 +16,6 @@ use Rattle.sessions.proofs.Pair.{comparable}
 use borrow.Author.Needs.{needs}
 use Rattle.sessions.proofs.continue_refusal.Statement.{statement}
 use Rattle.sessions.proofs.continue_refusal.Tie as tie
-use Rattle.sessions.proofs.continue_refusal.Reads as reads
-use Rattle.sessions.proofs.continue_refusal.Lts as lts
-use Rattle.file.proofs.fields.read_sizes.Reads as read-sizes-reads
-use Rattle.file.proofs.fields.step_count.Reads as step-count-reads
-use Rattle.grid.proofs.grid_of.Reads as grid-of-reads
-use Rattle.sessions.proofs.larger.Reads as larger-reads
-use Rattle.sessions.proofs.pair_refusal.Reads as pair-refusal-reads
-use Rattle.sessions.proofs.state_refusal.Reads as state-refusal-reads
-use Rattle.sizes.proofs.refused_by.Reads as refused-by-reads
 
 number :
     (c : tie.After-pair-refusal) →
@@ -50,43 +41,34 @@ counted :
     c .larger .result ≡ largerCount (now (a .file1)) (now (a .file2))
 counted c = c .larger .ensures ∙ ap₂ max (c .before .before .step-count .ensures .0) (c .before .step-count2 .ensures .0)
 
--- src/lib.rt:206:9
 refused-by-requires : tie.Need-refused-by-requires
 refused-by-requires c κs = search needs
 
--- src/lib.rt:206:9
 returns : tie.Need-returns
 unfolding continueRefusal
 returns c = c .refused-by .ensures ∙ rw (eq-eqb _ 0 (c .before .if1 .taken))
 
--- src/lib.rt:208:9
 pair-refusal-requires : tie.Need-pair-refusal-requires
 pair-refusal-requires c κs = search needs
 
--- src/lib.rt:211:9
 returns-2 : tie.Need-returns-2
 unfolding continueRefusal
 returns-2 c =
     c .before .pair-refusal .ensures
     ∙ rw (ne-eqb _ 0 (c .before .before .if1 .left), ne-eqb _ 0 (λ e. c .if2 .taken (number (c .before) ∙ e)))
 
--- src/lib.rt:213:22
 step-count-requires : tie.Need-step-count-requires
 step-count-requires c κs = files c .sound₁ .long
 
--- src/lib.rt:213:41
 step-count-requires-2 : tie.Need-step-count-requires-2
 step-count-requires-2 c κs = files (c .before) .sound₂ .long
 
--- src/lib.rt:213:15
 larger-requires : tie.Need-larger-requires
 larger-requires c κs = search needs
 
--- src/lib.rt:214:9
 refused-by-requires-2 : tie.Need-refused-by-requires-2
 refused-by-requires-2 c κs = search needs
 
--- src/lib.rt:214:9
 returns-3 : tie.Need-returns-3
 unfolding continueRefusal
 returns-3 c =
@@ -94,11 +76,9 @@ returns-3 c =
     ∙ rw
     (ne-eqb _ 0 (c .before .before .before .before .before .before .before .if1 .left), free (c .before .before .before .before .before), lt-ltb (c .before .before .before .before .before .before .before .before .before .before .args .room) (largerCount (now (c .before .before .before .before .before .before .before .before .before .before .args .file1)) (now (c .before .before .before .before .before .before .before .before .before .before .args .file2))) (omega (arith, c .before .if3 .taken, counted (c .before .before))))
 
--- src/lib.rt:216:9
 read-sizes-requires : tie.Need-read-sizes-requires
 read-sizes-requires c κs = files (c .before .before .before .before) .sound₁ .long
 
--- src/lib.rt:217:16
 grid-of-requires : tie.Need-grid-of-requires
 grid-of-requires c κs =
     let a = files (c .before .before .before .before .before) .sound₁ in
@@ -107,11 +87,9 @@ grid-of-requires c κs =
       omega (arith, a .inputsHigh, ap (λ (z : Sizes). z .d) z),
     )
 
--- src/lib.rt:218:5
 state-refusal-requires : tie.Need-state-refusal-requires
 state-refusal-requires c κs = search needs
 
--- src/lib.rt:202:1
 returns-4 : tie.Need-returns-4
 unfolding continueRefusal gridOf
 returns-4 c =

@@ -16,14 +16,6 @@ use Rattle.sessions.proofs.Pair.{comparable}
 use borrow.Author.Needs.{needs}
 use Rattle.sessions.proofs.continue_session.Statement.{statement}
 use Rattle.sessions.proofs.continue_session.Tie as tie
-use Rattle.sessions.proofs.continue_session.Reads as reads
-use Rattle.sessions.proofs.continue_session.Lts as lts
-use Rattle.evaluate.proofs.clear.Reads as clear-reads
-use Rattle.file.proofs.fields.step_count.Reads as step-count-reads
-use Rattle.sessions.proofs.advance.Reads as advance-reads
-use Rattle.sessions.proofs.continue_refusal.Reads as continue-refusal-reads
-use Rattle.sessions.proofs.larger.Reads as larger-reads
-use Rattle.sessions.proofs.refused_answer.Reads as refused-answer-reads
 
 number :
     (c : tie.After-continue-refusal) →
@@ -62,15 +54,12 @@ counted :
     c .larger .result ≡ largerCount (now (a .file1)) (now (a .file2))
 counted c = c .larger .ensures ∙ ap₂ max (c .before .before .step-count .ensures .0) (c .before .step-count2 .ensures .0)
 
--- src/lib.rt:320:9
 continue-refusal-requires : tie.Need-continue-refusal-requires
 continue-refusal-requires c κs = search needs
 
--- src/lib.rt:323:13
 refused-answer-requires : tie.Need-refused-answer-requires
 refused-answer-requires c κs = search needs
 
--- src/lib.rt:324:9
 returns : tie.Need-returns
 returns c =
     let a = c .before .before .before .before .before .before .args in
@@ -80,34 +69,27 @@ returns c =
       scratch-refused _ _ _ _ _ r,
     )
 
--- src/lib.rt:326:9
 advance-requires : tie.Need-advance-requires
 advance-requires c κs =
     let g = c .before in
     (files g, (free g .inside, free g .room))
 
--- src/lib.rt:327:27
 step-count-requires : tie.Need-step-count-requires
 step-count-requires c κs = files (c .before .before .before .before .before) .sound₁ .long
 
--- src/lib.rt:327:46
 step-count-requires-2 : tie.Need-step-count-requires-2
 step-count-requires-2 c κs = files (c .before .before .before .before .before .before) .sound₂ .long
 
--- src/lib.rt:327:20
 larger-requires : tie.Need-larger-requires
 larger-requires c κs = search needs
 
--- src/lib.rt:327:5
 clear-requires : tie.Need-clear-requires
 clear-requires c κs =
     omega (arith, counted c, free (c .before .before .before .before .before .before .before .before) .room, c .before .before .before .before .before .before .advance .kept .1 .1 .1 .1 .0)
 
--- src/lib.rt:317:1
 same-length : tie.Need-same-length
 same-length c = search needs
 
--- src/lib.rt:317:1
 returns-2 : tie.Need-returns-2
 returns-2 c =
     let a = c .before .before .before .before .before .before .before .before .before .before .before .before .before .before .before .before .args in

@@ -21,29 +21,18 @@ use Rattle.sessions.specs.declared.Outcome.the-variants.{Differs}
 use borrow.Author.Needs.{needs}
 use Rattle.sessions.proofs.differs_answer.Statement.{statement}
 use Rattle.sessions.proofs.differs_answer.Tie as tie
-use Rattle.sessions.proofs.differs_answer.Reads as reads
-use Rattle.sessions.proofs.differs_answer.Lts as lts
-use Rattle.evaluate.proofs.output_at.Reads as output-at-reads
-use Rattle.file.proofs.fields.read_sizes.Reads as read-sizes-reads
-use Rattle.file.proofs.fields.step_count.Reads as step-count-reads
-use Rattle.grid.proofs.grid_of.Reads as grid-of-reads
-use Rattle.sizes.proofs.refused_by.Reads as refused-by-reads
-use Rattle.vectors.proofs.vector_at.Reads as vector-at-reads
 
 -- the axes are those of the files
 axes : (c : tie.After-axes) → take (c .before .before .before .read-sizes .result .d) (c .before .grid-of .result .axes) ≡ axesOf (sizesOf (now (c .before .before .before .before .before .before .before .args .file1)))
 axes c =
     axes-read (now (c .before .before .before .before .before .before .before .args .file1)) (now (c .before .before .before .before .before .before .before .args .file2)) _ _ (c .before .before .before .before .before .before .before .pre .0) (c .before .before .before .read-sizes .ensures) (c .before .grid-of .ensures)
 
--- src/lib.rt:257:9
 read-sizes-requires : tie.Need-read-sizes-requires
 read-sizes-requires c κs = search needs
 
--- src/lib.rt:258:13
 cast-d : tie.Need-cast-d
 cast-d c = search needs
 
--- src/lib.rt:259:16
 grid-of-requires : tie.Need-grid-of-requires
 grid-of-requires c κs =
     let a = c .before .before .before .before .before .pre .0 .sound₁ in
@@ -52,46 +41,36 @@ grid-of-requires c κs =
       omega (arith, a .inputsHigh, ap (λ (z : Sizes). z .d) z),
     )
 
--- src/lib.rt:260:18
 vector-at-requires : tie.Need-vector-at-requires
 unfolding gridSize
 vector-at-requires c κs =
     let p = c .before .before .before .before .before .before .before .pre in
     (omega (arith, p .0 .sound₁ .inputsHigh, ap (λ (z : Sizes). z .d) (c .before .before .before .read-sizes .ensures)), rw (axes c) (p .1 .0))
 
--- src/lib.rt:261:36
 step-count-requires : tie.Need-step-count-requires
 step-count-requires c κs = search needs
 
--- src/lib.rt:261:55
 slice-aggregate-output-at : tie.Need-slice-aggregate-output-at
 slice-aggregate-output-at c = search needs
 
--- src/lib.rt:261:9
 output-at-requires : tie.Need-output-at-requires
 output-at-requires c κs = search needs
 
--- src/lib.rt:262:36
 step-count-requires-2 : tie.Need-step-count-requires-2
 step-count-requires-2 c κs = search needs
 
--- src/lib.rt:262:55
 slice-aggregate-output-at-2 : tie.Need-slice-aggregate-output-at-2
 slice-aggregate-output-at-2 c = search needs
 
--- src/lib.rt:262:9
 output-at-requires-2 : tie.Need-output-at-requires-2
 output-at-requires-2 c κs = search needs
 
--- src/lib.rt:264:18
 refused-by-requires : tie.Need-refused-by-requires
 refused-by-requires c κs = search needs
 
--- src/lib.rt:251:1
 same-length : tie.Need-same-length
 same-length c = search needs
 
--- src/lib.rt:251:1
 returns : tie.Need-returns
 unfolding differsAnswer
 returns c =

@@ -4,32 +4,24 @@ use Rattle.sessions.specs.Session.{isClosed}
 use borrow.Author.Needs.{needs}
 use Rattle.sessions.proofs.is_closed.Statement.{statement}
 use Rattle.sessions.proofs.is_closed.Tie as tie
-use Rattle.sessions.proofs.is_closed.Reads as reads
-use Rattle.sessions.proofs.is_closed.Lts as lts
 
--- src/lib.rt:162:23
 enum-told : tie.Need-enum-told
 enum-told c = search needs
 
--- src/lib.rt:163:24
 enum-told-2 : tie.Need-enum-told-2
 enum-told-2 c = search needs
 
--- src/lib.rt:164:25
 enum-told-3 : tie.Need-enum-told-3
 enum-told-3 c = search needs
 
--- src/lib.rt:158:1
 returns : tie.Need-returns
 unfolding isClosed
 returns c = rw (c .enum-told .given .1)
 
--- src/lib.rt:158:1
 returns-2 : tie.Need-returns-2
 unfolding isClosed
 returns-2 c = rw (c .enum-told2 .given .1)
 
--- src/lib.rt:158:1
 returns-3 : tie.Need-returns-3
 unfolding isClosed
 returns-3 c = rw (c .enum-told3 .given .1)

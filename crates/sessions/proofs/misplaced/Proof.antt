@@ -6,37 +6,27 @@ use Rattle.sessions.specs.Session.{misplaced}
 use borrow.Author.Needs.{needs}
 use Rattle.sessions.proofs.misplaced.Statement.{statement}
 use Rattle.sessions.proofs.misplaced.Tie as tie
-use Rattle.sessions.proofs.misplaced.Reads as reads
-use Rattle.sessions.proofs.misplaced.Lts as lts
-use Rattle.sizes.proofs.within.Reads as within-reads
 
--- src/lib.rt:151:23
 enum-told : tie.Need-enum-told
 enum-told c = search needs
 
--- src/lib.rt:152:24
 enum-told-2 : tie.Need-enum-told-2
 enum-told-2 c = search needs
 
--- src/lib.rt:153:26
 enum-told-3 : tie.Need-enum-told-3
 enum-told-3 c = search needs
 
--- src/lib.rt:153:26
 within-requires : tie.Need-within-requires
 within-requires c κs = search needs
 
--- src/lib.rt:147:1
 returns : tie.Need-returns
 unfolding misplaced
 returns c = rw (c .enum-told .given .1)
 
--- src/lib.rt:147:1
 returns-2 : tie.Need-returns-2
 unfolding misplaced
 returns-2 c = rw (c .enum-told2 .given .1)
 
--- src/lib.rt:147:1
 returns-3 : tie.Need-returns-3
 unfolding misplaced
 returns-3 c = rw (c .before .enum-told3 .given .1) (ap not (c .within .ensures))

@@ -4,10 +4,7 @@ use mathlib.Core.Path.{refl}
 use Rattle.sessions.specs.Session.{noSession}
 use Rattle.sessions.proofs.no_session.Statement.{statement}
 use Rattle.sessions.proofs.no_session.Tie as tie
-use Rattle.sessions.proofs.no_session.Reads as reads
-use Rattle.sessions.proofs.no_session.Lts as lts
 
--- src/lib.rt:107:1
 returns : tie.Need-returns
 unfolding noSession
 returns c = refl

@@ -14,11 +14,6 @@ use Rattle.sessions.proofs.Pair.{comparable}
 use borrow.Author.Needs.{needs}
 use Rattle.sessions.proofs.open_session.Statement.{statement}
 use Rattle.sessions.proofs.open_session.Tie as tie
-use Rattle.sessions.proofs.open_session.Reads as reads
-use Rattle.sessions.proofs.open_session.Lts as lts
-use Rattle.file.proofs.fields.read_sizes.Reads as read-sizes-reads
-use Rattle.sessions.proofs.no_session.Reads as no-session-reads
-use Rattle.sessions.proofs.pair_refusal.Reads as pair-refusal-reads
 
 answer : Refusal → Session → Opened
 answer r z = record { refusal = r; session = z }
@@ -38,26 +33,21 @@ free :
     isRefusal (pairRefusal (now (a .file1)) (now (a .file2))) ≡ false
 free c = rw (eq-eqb _ 0 (sym (number (c .before)) ∙ c .if1 .left))
 
--- src/lib.rt:126:9
 pair-refusal-requires : tie.Need-pair-refusal-requires
 pair-refusal-requires c κs = search needs
 
--- src/lib.rt:129:13
 no-session-requires : tie.Need-no-session-requires
 no-session-requires c κs = search needs
 
--- src/lib.rt:130:9
 returns : tie.Need-returns
 unfolding opened answer
 returns c =
     rw (ne-eqb _ 0 (λ e. c .before .if1 .taken (number (c .before .before) ∙ e)))
     (ap₂ answer (c .before .before .pair-refusal .ensures) (c .no-session .ensures))
 
--- src/lib.rt:135:9
 read-sizes-requires : tie.Need-read-sizes-requires
 read-sizes-requires c κs = comparable _ _ (free c) .sound₁ .long
 
--- src/lib.rt:123:1
 returns-2 : tie.Need-returns-2
 unfolding opened answer begun
 returns-2 c =

@@ -12,12 +12,6 @@ use Rattle.sessions.proofs.Pair.{pair-first, pair-second, pair-9, pair-
 use borrow.Author.Needs.{needs}
 use Rattle.sessions.proofs.pair_refusal.Statement.{statement}
 use Rattle.sessions.proofs.pair_refusal.Tie as tie
-use Rattle.sessions.proofs.pair_refusal.Reads as reads
-use Rattle.sessions.proofs.pair_refusal.Lts as lts
-use Rattle.file.proofs.check_as.Reads as check-as-reads
-use Rattle.file.proofs.fields.read_sizes.Reads as read-sizes-reads
-use Rattle.sessions.proofs.same_sizes.Reads as same-sizes-reads
-use Rattle.sizes.proofs.refused_by.Reads as refused-by-reads
 
 number₁ : (c : tie.After-check-as) → c .check-as .result .number ≡ fileNumber (now (c .before .before .before .args .file1))
 number₁ c = ap (λ (r : Refusal). r .number) (c .check-as .ensures) ∙ refusal-number _ 1
@@ -37,48 +31,37 @@ tested :
     sameSizes (sizesOf (now (a .file1))) (sizesOf (now (a .file2))) ≡ c .same-sizes .result
 tested c = sym (c .same-sizes .ensures ∙ ap₂ sameSizes (c .before .before .read-sizes .ensures) (c .before .read-sizes2 .ensures))
 
--- src/lib.rt:90:9
 check-as-requires : tie.Need-check-as-requires
 check-as-requires c κs = search needs
 
--- src/lib.rt:93:9
 returns : tie.Need-returns
 returns c = c .before .check-as .ensures ∙ sym (pair-first _ _ (λ e. c .if1 .taken (number₁ (c .before) ∙ e)))
 
--- src/lib.rt:95:9
 check-as-requires-2 : tie.Need-check-as-requires-2
 check-as-requires-2 c κs = search needs
 
--- src/lib.rt:98:9
 returns-2 : tie.Need-returns-2
 returns-2 c = c .before .check-as2 .ensures ∙ sym (pair-second _ _ (sound₁ (c .before .before)) (λ e. c .if2 .taken (number₂ (c .before) ∙ e)))
 
--- src/lib.rt:100:19
 read-sizes-requires : tie.Need-read-sizes-requires
 read-sizes-requires c κs = accepted _ (sound₁ (c .before .before)) .long
 
--- src/lib.rt:100:38
 read-sizes-requires-2 : tie.Need-read-sizes-requires-2
 read-sizes-requires-2 c κs = accepted _ (sound₂ (c .before)) .long
 
--- src/lib.rt:100:8
 same-sizes-requires : tie.Need-same-sizes-requires
 same-sizes-requires c κs = search needs
 
--- src/lib.rt:101:9
 refused-by-requires : tie.Need-refused-by-requires
 refused-by-requires c κs = search needs
 
--- src/lib.rt:101:9
 returns-3 : tie.Need-returns-3
 returns-3 c =
     c .refused-by .ensures ∙ sym (pair-0 _ _ (sound₁ (c .before .before .before .before .before .before .before)) (sound₂ (c .before .before .before .before .before)) (tested (c .before .before) ∙ c .before .if3 .taken))
 
--- src/lib.rt:103:5
 refused-by-requires-2 : tie.Need-refused-by-requires-2
 refused-by-requires-2 c κs = search needs
 
--- src/lib.rt:87:1
 returns-4 : tie.Need-returns-4
 returns-4 c =
     c .refused-by2 .ensures ∙ sym (pair-9 _ _ (sound₁ (c .before .before .before .before .before .before .before)) (sound₂ (c .before .before .before .before .before)) (tested (c .before .before) ∙ c .before .if3 .left))

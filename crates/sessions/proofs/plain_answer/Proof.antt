@@ -9,15 +9,10 @@ use Rattle.sessions.specs.declared.Answer.{Answer}
 use borrow.Author.Needs.{needs}
 use Rattle.sessions.proofs.plain_answer.Statement.{statement}
 use Rattle.sessions.proofs.plain_answer.Tie as tie
-use Rattle.sessions.proofs.plain_answer.Reads as reads
-use Rattle.sessions.proofs.plain_answer.Lts as lts
-use Rattle.sizes.proofs.refused_by.Reads as refused-by-reads
 
--- src/lib.rt:240:18
 refused-by-requires : tie.Need-refused-by-requires
 refused-by-requires c κs = search needs
 
--- src/lib.rt:236:1
 returns : tie.Need-returns
 unfolding plainAnswer
 returns c =

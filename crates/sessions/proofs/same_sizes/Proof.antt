@@ -16,8 +16,6 @@ use Rattle.sizes.specs.Sizes.{maxInputs}
 use Rattle.sessions.specs.Session.{sameSizes}
 use Rattle.sessions.proofs.same_sizes.Statement.{statement}
 use Rattle.sessions.proofs.same_sizes.Tie as tie
-use Rattle.sessions.proofs.same_sizes.Reads as reads
-use Rattle.sessions.proofs.same_sizes.Lts as lts
 
 abbrev alike : List ℕ → List ℕ → ℕ → Bool
 alike a b i = eqb (getD a i 0) (getD b i 0)
@@ -28,29 +26,23 @@ Inv-loop a b i₀ i = (i ≤ maxInputs) × (every (alike a b) 0 maxInputs ≡ ev
 abbrev μ-loop : tie.MeasureT-loop
 μ-loop a b i₀ i = maxInputs - i
 
--- src/lib.rt:69:9
 returns : tie.Need-returns Inv-loop μ-loop
 unfolding sameSizes
 returns c = rw (ne-eqb _ _ (c .if1 .taken))
 
--- src/lib.rt:72:9
 returns-2 : tie.Need-returns-2 Inv-loop μ-loop
 unfolding sameSizes
 returns-2 c = rw (eq-eqb _ _ (c .before .before .before .if1 .left), ne-eqb _ _ (c .if2 .taken))
 
--- src/lib.rt:77:5
 loop-holds : tie.Need-loop-holds Inv-loop μ-loop
 loop-holds c = (omega arith, refl)
 
--- src/lib.rt:78:12
 array-read-if3 : tie.Need-array-read-if3 Inv-loop μ-loop
 array-read-if3 c = search needs
 
--- src/lib.rt:78:20
 array-read-if3-2 : tie.Need-array-read-if3-2 Inv-loop μ-loop
 array-read-if3-2 c = search needs
 
--- src/lib.rt:79:13
 returns-3 : tie.Need-returns-3 Inv-loop μ-loop
 unfolding sameSizes
 returns-3 c =
@@ -59,20 +51,16 @@ returns-3 c =
     rw (eq-eqb _ _ (c .before .before .before .before .before .before .before .before .if1 .left), eq-eqb _ _ (c .before .before .before .before .before .if2 .left))
     (sym (c .before .before .loop .inv .1 ∙ every-not (alike a b) _ maxInputs (c .before .loop-test .taken) (ne-eqb _ _ (c .if3 .taken))))
 
--- src/lib.rt:81:9
 add-i : tie.Need-add-i Inv-loop μ-loop
 add-i c = search needs
 
--- src/lib.rt:77:5
 loop-less : tie.Need-loop-less Inv-loop μ-loop
 loop-less c = search needs
 
--- src/lib.rt:77:5
 loop-again : tie.Need-loop-again Inv-loop μ-loop
 loop-again c =
     (omega arith, c .before .before .loop .inv .1 ∙ every-step _ _ maxInputs (c .before .loop-test .taken) (eq-eqb _ _ (c .if3 .left)))
 
--- src/lib.rt:65:1
 returns-4 : tie.Need-returns-4 Inv-loop μ-loop
 unfolding sameSizes
 returns-4 c =

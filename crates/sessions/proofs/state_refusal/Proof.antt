@@ -6,35 +6,23 @@ use Rattle.sessions.specs.Session.{stateRefusal}
 use borrow.Author.Needs.{needs}
 use Rattle.sessions.proofs.state_refusal.Statement.{statement}
 use Rattle.sessions.proofs.state_refusal.Tie as tie
-use Rattle.sessions.proofs.state_refusal.Reads as reads
-use Rattle.sessions.proofs.state_refusal.Lts as lts
-use Rattle.sessions.proofs.is_closed.Reads as is-closed-reads
-use Rattle.sessions.proofs.misplaced.Reads as misplaced-reads
-use Rattle.sessions.proofs.same_sizes.Reads as same-sizes-reads
-use Rattle.sizes.proofs.refused_by.Reads as refused-by-reads
 
--- src/lib.rt:189:9
 same-sizes-requires : tie.Need-same-sizes-requires
 same-sizes-requires c κs = search needs
 
--- src/lib.rt:190:9
 refused-by-requires : tie.Need-refused-by-requires
 refused-by-requires c κs = search needs
 
--- src/lib.rt:190:9
 returns : tie.Need-returns
 unfolding stateRefusal
 returns c = c .refused-by .ensures ∙ rw (sym (c .before .before .same-sizes .ensures) ∙ not-true _ (c .before .if1 .taken))
 
--- src/lib.rt:192:8
 misplaced-requires : tie.Need-misplaced-requires
 misplaced-requires c κs = search needs
 
--- src/lib.rt:193:9
 refused-by-requires-2 : tie.Need-refused-by-requires-2
 refused-by-requires-2 c κs = search needs
 
--- src/lib.rt:193:9
 returns-2 : tie.Need-returns-2
 unfolding stateRefusal
 returns-2 c =
@@ -42,15 +30,12 @@ returns-2 c =
     ∙ rw
     (sym (c .before .before .before .before .same-sizes .ensures) ∙ not-false _ (c .before .before .before .if1 .left), sym (c .before .before .misplaced .ensures) ∙ c .before .if2 .taken)
 
--- src/lib.rt:195:8
 is-closed-requires : tie.Need-is-closed-requires
 is-closed-requires c κs = search needs
 
--- src/lib.rt:196:9
 refused-by-requires-3 : tie.Need-refused-by-requires-3
 refused-by-requires-3 c κs = search needs
 
--- src/lib.rt:196:9
 returns-3 : tie.Need-returns-3
 unfolding stateRefusal
 returns-3 c =
@@ -58,11 +43,9 @@ returns-3 c =
     ∙ rw
     (sym (c .before .before .before .before .before .before .same-sizes .ensures) ∙ not-false _ (c .before .before .before .before .before .if1 .left), sym (c .before .before .before .before .misplaced .ensures) ∙ c .before .before .before .if2 .left, sym (c .before .before .is-closed .ensures) ∙ c .before .if3 .taken)
 
--- src/lib.rt:198:5
 refused-by-requires-4 : tie.Need-refused-by-requires-4
 refused-by-requires-4 c κs = search needs
 
--- src/lib.rt:183:1
 returns-4 : tie.Need-returns-4
 unfolding stateRefusal
 returns-4 c =

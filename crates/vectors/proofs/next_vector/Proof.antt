@@ -16,8 +16,6 @@ use mir.Syntax.{w64}
 use mir.Val.{Fits}
 use Rattle.vectors.proofs.next_vector.Statement.{statement}
 use Rattle.vectors.proofs.next_vector.Tie as tie
-use Rattle.vectors.proofs.next_vector.Reads as reads
-use Rattle.vectors.proofs.next_vector.Lts as lts
 
 record Carried (axes : List ℕ) (d : ℕ) (v₀ v : List ℕ) (i : ℕ) : Type 0 where
   within : i ≤ d
@@ -101,23 +99,18 @@ Inv-loop d axes next₀ i₀ next i = Carried axes d next₀ next i
 abbrev μ-loop : tie.MeasureT-loop
 μ-loop d axes next₀ i₀ next i = i
 
--- src/lib.rt:36:5
 loop-holds : tie.Need-loop-holds Inv-loop μ-loop
 loop-holds c = start _ _ _ (length-take-le (c .args .d) (c .args .t1) (search needs)) (c .pre .1)
 
--- src/lib.rt:37:9
 sub-i : tie.Need-sub-i Inv-loop μ-loop
 sub-i c = search needs
 
--- src/lib.rt:38:17
 mul-x : tie.Need-mul-x Inv-loop μ-loop
 mul-x c = search needs
 
--- src/lib.rt:38:17
 array-read-x : tie.Need-array-read-x Inv-loop μ-loop
 array-read-x c = search needs
 
--- src/lib.rt:38:17
 add-x : tie.Need-add-x Inv-loop μ-loop
 add-x c =
     let a = c .before .before .args in
@@ -125,45 +118,35 @@ add-x c =
     let most : Fits w64 (getD (a .t1) j 0) = search needs in
     omega (arith, most .fits, below (c .before .loop .inv) (c .loop-test .taken))
 
--- src/lib.rt:39:16
 mul-if1 : tie.Need-mul-if1 Inv-loop μ-loop
 mul-if1 c = search needs
 
--- src/lib.rt:39:16
 array-read-if1 : tie.Need-array-read-if1 Inv-loop μ-loop
 array-read-if1 c = search needs
 
--- src/lib.rt:40:13
 mul-next : tie.Need-mul-next Inv-loop μ-loop
 mul-next c = search needs
 
--- src/lib.rt:40:13
 array-write-next : tie.Need-array-write-next Inv-loop μ-loop
 array-write-next c = search needs
 
--- src/lib.rt:41:13
 returns : tie.Need-returns Inv-loop μ-loop
 returns c =
     up (c .before .before .loop .inv) (c .before .loop-test .taken) (c .if1 .taken)
 
--- src/lib.rt:43:9
 mul-next-2 : tie.Need-mul-next-2 Inv-loop μ-loop
 mul-next-2 c = search needs
 
--- src/lib.rt:43:9
 array-write-next-2 : tie.Need-array-write-next-2 Inv-loop μ-loop
 array-write-next-2 c = search needs
 
--- src/lib.rt:36:5
 loop-less : tie.Need-loop-less Inv-loop μ-loop
 loop-less c = search needs
 
--- src/lib.rt:36:5
 loop-again : tie.Need-loop-again Inv-loop μ-loop
 loop-again c =
     carry (c .before .before .loop .inv) (c .before .loop-test .taken) (c .if1 .left)
 
--- src/lib.rt:29:1
 returns-2 : tie.Need-returns-2 Inv-loop μ-loop
 returns-2 c =
     let e : c .before .loop .i ≡ 0 = omega arith in

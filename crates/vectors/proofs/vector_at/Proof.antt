@@ -15,8 +15,6 @@ use Rattle.sizes.specs.Sizes.{maxInputs}
 use Rattle.vectors.proofs.Digits.{Digits, digit-below, place-set, placed, size-drop, size-end, written, zeros}
 use Rattle.vectors.proofs.vector_at.Statement.{statement}
 use Rattle.vectors.proofs.vector_at.Tie as tie
-use Rattle.vectors.proofs.vector_at.Reads as reads
-use Rattle.vectors.proofs.vector_at.Lts as lts
 
 record Decoded (axes : List ℕ) (d p : ℕ) (v : List ℕ) (rest i : ℕ) : Type 0 where
   within : i ≤ d
@@ -82,48 +80,37 @@ Inv-loop d p axes v₀ rest₀ i₀ v rest i = Decoded axes d p v rest i
 abbrev μ-loop : tie.MeasureT-loop
 μ-loop d p axes v₀ rest₀ i₀ v rest i = i
 
--- src/lib.rt:18:5
 loop-holds : tie.Need-loop-holds Inv-loop μ-loop
 loop-holds c =
     start _ _ _ (c .pre .0) (length-take-le (c .args .d) (c .args .t1) (search needs)) (c .pre .1)
 
--- src/lib.rt:19:9
 sub-i : tie.Need-sub-i Inv-loop μ-loop
 sub-i c = search needs
 
--- src/lib.rt:20:17
 mul-u : tie.Need-mul-u Inv-loop μ-loop
 mul-u c = search needs
 
--- src/lib.rt:20:17
 array-read-u : tie.Need-array-read-u Inv-loop μ-loop
 array-read-u c = search needs
 
--- src/lib.rt:21:16
 rem-v : tie.Need-rem-v Inv-loop μ-loop
 rem-v c = some (c .before .loop .inv) (c .loop-test .taken)
 
--- src/lib.rt:21:9
 mul-v : tie.Need-mul-v Inv-loop μ-loop
 mul-v c = search needs
 
--- src/lib.rt:21:9
 array-write-v : tie.Need-array-write-v Inv-loop μ-loop
 array-write-v c = search needs
 
--- src/lib.rt:22:16
 div-rest : tie.Need-div-rest Inv-loop μ-loop
 div-rest c = some (c .before .loop .inv) (c .loop-test .taken)
 
--- src/lib.rt:18:5
 loop-less : tie.Need-loop-less Inv-loop μ-loop
 loop-less c = search needs
 
--- src/lib.rt:18:5
 loop-again : tie.Need-loop-again Inv-loop μ-loop
 loop-again c = more (c .before .loop .inv) (c .loop-test .taken)
 
--- src/lib.rt:10:1
 returns : tie.Need-returns Inv-loop μ-loop
 returns c =
     let f = c .before .loop .inv in

@@ -14,63 +14,44 @@ use Rattle.exports.proofs.Sessions.{told, continue-answer-wrong, contin
 use borrow.Author.Needs.{needs}
 use Rattle.exports.proofs.session_calls.corkbingo_continue.Statement.{statement}
 use Rattle.exports.proofs.session_calls.corkbingo_continue.Tie as tie
-use Rattle.exports.proofs.session_calls.corkbingo_continue.Reads as reads
-use Rattle.exports.proofs.session_calls.corkbingo_continue.Lts as lts
-use Rattle.exports.proofs.session_calls.put_answer.Reads as put-answer-reads
-use Rattle.exports.proofs.session_calls.put_session.Reads as put-session-reads
-use Rattle.exports.proofs.session_calls.session_fits.Reads as session-fits-reads
-use Rattle.exports.proofs.session_calls.session_from.Reads as session-from-reads
-use Rattle.sessions.proofs.continue_session.Reads as continue-session-reads
 
--- src/session_calls.rt:163:9
 returns : tie.Need-returns
 returns c =
     let e = continue-answer-wrong (now (c .before .before .before .before .before .before .args .session)) (now (c .before .before .before .before .before .before .args .answer)) (c .if1 .taken) in
     (rw e, rw e, rw e, rw e)
 
--- src/session_calls.rt:165:9
 session-fits-requires : tie.Need-session-fits-requires
 session-fits-requires c κs = search needs
 
--- src/session_calls.rt:166:9
 same-length : tie.Need-same-length
 same-length c = search needs
 
--- src/session_calls.rt:166:9
 returns-2 : tie.Need-returns-2
 returns-2 c =
     let e = continue-judged (now (c .before .before .before .before .before .before .before .before .before .args .session)) (now (c .before .before .before .before .before .before .before .before .before .args .answer)) (c .before .before .before .if1 .left) ∙ sym (c .before .session-fits .ensures) ∙ not-true _ (c .if2 .taken) in
     (rw e, rw e, rw e, rw e)
 
--- src/session_calls.rt:168:9
 session-from-requires : tie.Need-session-from-requires
 session-from-requires c κs = sym (c .before .before .session-fits .ensures) ∙ not-false _ (c .before .if2 .left)
 
--- src/session_calls.rt:169:9
 continue-session-requires : tie.Need-continue-session-requires
 continue-session-requires c κs = search needs
 
--- src/session_calls.rt:174:5
 put-session-requires : tie.Need-put-session-requires
 put-session-requires c κs = told _ (sym (c .before .before .before .before .before .before .before .before .before .before .before .session-fits .ensures) ∙ not-false _ (c .before .before .before .before .before .before .before .before .before .before .if2 .left)) .0
 
--- src/session_calls.rt:175:5
 put-answer-requires : tie.Need-put-answer-requires
 put-answer-requires c κs = search needs
 
--- src/session_calls.rt:151:1
 same-length-2 : tie.Need-same-length-2
 same-length-2 c = search needs
 
--- src/session_calls.rt:151:1
 same-length-3 : tie.Need-same-length-3
 same-length-3 c = search needs
 
--- src/session_calls.rt:151:1
 same-length-4 : tie.Need-same-length-4
 same-length-4 c = search needs
 
--- src/session_calls.rt:151:1
 returns-3 : tie.Need-returns-3
 returns-3 c =
     let a = c .before .before .before .before .before .before .before .before .before .before .before .before .before .before .before .before .before .before .before .before .before .before .before .before .before .before .args in

@@ -9,49 +9,35 @@ use Rattle.exports.proofs.Sessions.{open-session-wrong, open-out-wrong,
 use borrow.Author.Needs.{needs}
 use Rattle.exports.proofs.session_calls.corkbingo_open.Statement.{statement}
 use Rattle.exports.proofs.session_calls.corkbingo_open.Tie as tie
-use Rattle.exports.proofs.session_calls.corkbingo_open.Reads as reads
-use Rattle.exports.proofs.session_calls.corkbingo_open.Lts as lts
-use Rattle.exports.proofs.copy_words.Reads as copy-words-reads
-use Rattle.exports.proofs.session_calls.put_session.Reads as put-session-reads
-use Rattle.sessions.proofs.open_session.Reads as open-session-reads
 
--- src/session_calls.rt:134:9
 returns : tie.Need-returns
 returns c =
     let e = open-session-wrong (now (c .before .before .before .before .before .args .session)) (now (c .before .before .before .before .before .args .out)) (c .if1 .taken) in
     (rw e, rw e, rw e)
 
--- src/session_calls.rt:137:9
 returns-2 : tie.Need-returns-2
 returns-2 c =
     let e = open-out-wrong (now (c .before .before .before .before .before .before .args .session)) (now (c .before .before .before .before .before .before .args .out)) (c .before .if1 .left) (c .if2 .taken) in
     (rw e, rw e, rw e)
 
--- src/session_calls.rt:139:9
 open-session-requires : tie.Need-open-session-requires
 open-session-requires c κs = search needs
 
--- src/session_calls.rt:144:5
 put-session-requires : tie.Need-put-session-requires
 put-session-requires c κs = search needs
 
--- src/session_calls.rt:145:21
 slice-aggregate-copy-words : tie.Need-slice-aggregate-copy-words
 slice-aggregate-copy-words c = search needs
 
--- src/session_calls.rt:145:5
 copy-words-requires : tie.Need-copy-words-requires
 copy-words-requires c κs = search needs
 
--- src/session_calls.rt:129:1
 same-length : tie.Need-same-length
 same-length c = search needs
 
--- src/session_calls.rt:129:1
 same-length-2 : tie.Need-same-length-2
 same-length-2 c = search needs
 
--- src/session_calls.rt:129:1
 returns-3 : tie.Need-returns-3
 returns-3 c =
     let a = c .before .before .before .before .before .before .before .before .before .before .before .before .before .before .before .before .before .before .before .args in

@@ -4,20 +4,15 @@ use borrow.Author.Tests.{eq-eqb, ne-eqb}
 use Rattle.exports.specs.SessionWords.{markFrom}
 use Rattle.exports.proofs.session_calls.mark_from.Statement.{statement}
 use Rattle.exports.proofs.session_calls.mark_from.Tie as tie
-use Rattle.exports.proofs.session_calls.mark_from.Reads as reads
-use Rattle.exports.proofs.session_calls.mark_from.Lts as lts
 
--- src/session_calls.rt:37:9
 returns : tie.Need-returns
 unfolding markFrom
 returns c = rw (eq-eqb _ 0 (c .if1 .taken))
 
--- src/session_calls.rt:40:9
 returns-2 : tie.Need-returns-2
 unfolding markFrom
 returns-2 c = rw (ne-eqb _ 0 (c .before .if1 .left), eq-eqb _ 1 (c .if2 .taken))
 
--- src/session_calls.rt:33:1
 returns-3 : tie.Need-returns-3
 unfolding markFrom
 returns-3 c = rw (ne-eqb _ 0 (c .before .if1 .left), ne-eqb _ 1 (c .if2 .left))

@@ -4,32 +4,24 @@ use Rattle.exports.specs.SessionWords.{markWord}
 use borrow.Author.Needs.{needs}
 use Rattle.exports.proofs.session_calls.mark_word.Statement.{statement}
 use Rattle.exports.proofs.session_calls.mark_word.Tie as tie
-use Rattle.exports.proofs.session_calls.mark_word.Reads as reads
-use Rattle.exports.proofs.session_calls.mark_word.Lts as lts
 
--- src/session_calls.rt:26:23
 enum-told : tie.Need-enum-told
 enum-told c = search needs
 
--- src/session_calls.rt:27:24
 enum-told-2 : tie.Need-enum-told-2
 enum-told-2 c = search needs
 
--- src/session_calls.rt:28:25
 enum-told-3 : tie.Need-enum-told-3
 enum-told-3 c = search needs
 
--- src/session_calls.rt:22:1
 returns : tie.Need-returns
 unfolding markWord
 returns c = rw (c .enum-told .given .1)
 
--- src/session_calls.rt:22:1
 returns-2 : tie.Need-returns-2
 unfolding markWord
 returns-2 c = rw (c .enum-told2 .given .1)
 
--- src/session_calls.rt:22:1
 returns-3 : tie.Need-returns-3
 unfolding markWord
 returns-3 c = rw (c .enum-told3 .given .1)

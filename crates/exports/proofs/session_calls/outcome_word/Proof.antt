@@ -4,41 +4,31 @@ use Rattle.exports.specs.SessionWords.{outcomeWord}
 use borrow.Author.Needs.{needs}
 use Rattle.exports.proofs.session_calls.outcome_word.Statement.{statement}
 use Rattle.exports.proofs.session_calls.outcome_word.Tie as tie
-use Rattle.exports.proofs.session_calls.outcome_word.Reads as reads
-use Rattle.exports.proofs.session_calls.outcome_word.Lts as lts
 
--- src/session_calls.rt:50:29
 enum-told : tie.Need-enum-told
 enum-told c = search needs
 
--- src/session_calls.rt:51:27
 enum-told-2 : tie.Need-enum-told-2
 enum-told-2 c = search needs
 
--- src/session_calls.rt:52:32
 enum-told-3 : tie.Need-enum-told-3
 enum-told-3 c = search needs
 
--- src/session_calls.rt:53:29
 enum-told-4 : tie.Need-enum-told-4
 enum-told-4 c = search needs
 
--- src/session_calls.rt:46:1
 returns : tie.Need-returns
 unfolding outcomeWord
 returns c = rw (c .enum-told .given .1)
 
--- src/session_calls.rt:46:1
 returns-2 : tie.Need-returns-2
 unfolding outcomeWord
 returns-2 c = rw (c .enum-told2 .given .1)
 
--- src/session_calls.rt:46:1
 returns-3 : tie.Need-returns-3
 unfolding outcomeWord
 returns-3 c = rw (c .enum-told3 .given .1)
 
--- src/session_calls.rt:46:1
 returns-4 : tie.Need-returns-4
 unfolding outcomeWord
 returns-4 c = rw (c .enum-told4 .given .1)

@@ -7,60 +7,43 @@ use Rattle.exports.proofs.Answered.{eight}
 use borrow.Author.Needs.{needs}
 use Rattle.exports.proofs.session_calls.put_answer.Statement.{statement}
 use Rattle.exports.proofs.session_calls.put_answer.Tie as tie
-use Rattle.exports.proofs.session_calls.put_answer.Reads as reads
-use Rattle.exports.proofs.session_calls.put_answer.Lts as lts
-use Rattle.exports.proofs.copy_words.Reads as copy-words-reads
-use Rattle.exports.proofs.session_calls.outcome_word.Reads as outcome-word-reads
 
--- src/session_calls.rt:93:9
 outcome-word-requires : tie.Need-outcome-word-requires
 outcome-word-requires c κs = search needs
 
--- src/session_calls.rt:97:55
 array-read-t13 : tie.Need-array-read-t13
 array-read-t13 c = search needs
 
--- src/session_calls.rt:97:61
 array-read-t16 : tie.Need-array-read-t16
 array-read-t16 c = search needs
 
--- src/session_calls.rt:97:67
 array-read-t19 : tie.Need-array-read-t19
 array-read-t19 c = search needs
 
--- src/session_calls.rt:97:73
 array-read-t22 : tie.Need-array-read-t22
 array-read-t22 c = search needs
 
--- src/session_calls.rt:97:79
 array-read-t25 : tie.Need-array-read-t25
 array-read-t25 c = search needs
 
--- src/session_calls.rt:97:85
 array-read-t28 : tie.Need-array-read-t28
 array-read-t28 c = search needs
 
--- src/session_calls.rt:97:91
 array-read-t31 : tie.Need-array-read-t31
 array-read-t31 c = search needs
 
--- src/session_calls.rt:97:97
 array-read-t34 : tie.Need-array-read-t34
 array-read-t34 c = search needs
 
--- src/session_calls.rt:96:9
 slice-aggregate-copy-words : tie.Need-slice-aggregate-copy-words
 slice-aggregate-copy-words c = search needs
 
--- src/session_calls.rt:94:5
 copy-words-requires : tie.Need-copy-words-requires
 copy-words-requires c κs = search needs
 
--- src/session_calls.rt:86:1
 same-length : tie.Need-same-length
 same-length c = search needs
 
--- src/session_calls.rt:86:1
 returns : tie.Need-returns
 unfolding answerWords
 returns c =

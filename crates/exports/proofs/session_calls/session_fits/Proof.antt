@@ -6,29 +6,21 @@ use Rattle.exports.specs.SessionWords.{sessionFits}
 use borrow.Author.Needs.{needs}
 use Rattle.exports.proofs.session_calls.session_fits.Statement.{statement}
 use Rattle.exports.proofs.session_calls.session_fits.Tie as tie
-use Rattle.exports.proofs.session_calls.session_fits.Reads as reads
-use Rattle.exports.proofs.session_calls.session_fits.Lts as lts
-use Rattle.exports.proofs.size_words.ten_bytes.Reads as ten-bytes-reads
 
--- src/session_calls.rt:105:9
 returns : tie.Need-returns
 unfolding sessionFits
 returns c = rw (ne-eqb _ 12 (c .if1 .taken))
 
--- src/session_calls.rt:107:9
 ten-bytes-requires : tie.Need-ten-bytes-requires
 ten-bytes-requires c κs = search needs
 
--- src/session_calls.rt:108:9
 returns-2 : tie.Need-returns-2
 unfolding sessionFits
 returns-2 c = rw (eq-eqb _ 12 (c .before .before .if1 .left), sym (c .before .ten-bytes .ensures) ∙ not-true _ (c .if2 .taken))
 
--- src/session_calls.rt:110:5
 shared-slice-read-result : tie.Need-shared-slice-read-result
 shared-slice-read-result c = search needs
 
--- src/session_calls.rt:101:1
 returns-3 : tie.Need-returns-3
 unfolding sessionFits
 returns-3 c = rw (eq-eqb _ 12 (c .before .before .before .if1 .left), sym (c .before .before .ten-bytes .ensures) ∙ not-false _ (c .before .if2 .left))

@@ -8,28 +8,19 @@ use Rattle.exports.proofs.Sessions.{told}
 use borrow.Author.Needs.{needs}
 use Rattle.exports.proofs.session_calls.session_from.Statement.{statement}
 use Rattle.exports.proofs.session_calls.session_from.Tie as tie
-use Rattle.exports.proofs.session_calls.session_from.Reads as reads
-use Rattle.exports.proofs.session_calls.session_from.Lts as lts
-use Rattle.exports.proofs.session_calls.mark_from.Reads as mark-from-reads
-use Rattle.exports.proofs.size_words.sizes_from.Reads as sizes-from-reads
 
--- src/session_calls.rt:118:9
 sizes-from-requires : tie.Need-sizes-from-requires
 sizes-from-requires c κs = told _ (c .before .pre) .1
 
--- src/session_calls.rt:119:26
 shared-slice-read-mark-from : tie.Need-shared-slice-read-mark-from
 shared-slice-read-mark-from c = omega (arith, told _ (c .before .before .before .pre) .0)
 
--- src/session_calls.rt:119:9
 mark-from-requires : tie.Need-mark-from-requires
 mark-from-requires c κs = search needs
 
--- src/session_calls.rt:122:19
 shared-slice-read-t5 : tie.Need-shared-slice-read-t5
 shared-slice-read-t5 c = omega (arith, told _ (c .before .before .before .before .before .pre) .0)
 
--- src/session_calls.rt:114:1
 returns : tie.Need-returns
 unfolding sessionFrom
 returns c =

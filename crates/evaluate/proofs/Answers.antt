@@ -1,5 +1,5 @@
 -- The cases of what evaluating answers: each refusal under the tests that led to it, and the scratch slice afterwards.
-use mathlib.Core.Path.{_≡_, refl, sym, _∙_, ap}
+use mathlib.Core.Path.{_≡_, sym, _∙_, ap}
 use mathlib.Core.Bool.{true, false, and-eq-true-iff}
 use mathlib.Core.Logic.{⊎-elim}
 use mathlib.Core.List.{List, _++_}
@@ -16,7 +16,6 @@ use Rattle.search.proofs.Search.{true-or-false}
 use Rattle.sizes.specs.declared.Refusal.{Refusal}
 use Rattle.sizes.specs.declared.Sizes.{Sizes}
 use Rattle.evaluate.specs.Evaluate.{outputOf, badVector, refusalAt, accepts, evaluatedAt, scratchAfter}
-use Rattle.evaluate.specs.declared.Evaluated.{Evaluated}
 
 module _ (s x : List ℕ) (len : ℕ) where
   pub at-file : ¬ (fileNumber s ≡ 0) → refusalAt s x len ≡ refusalOf 1 s

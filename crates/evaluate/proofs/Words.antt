@@ -1,12 +1,12 @@
 -- The value of a step modulo 2^64, by its operation: an input and a constant fit a word, and the operands are words of exact values.
-use mathlib.Core.Path.{_≡_, refl, sym, _∙_, ap, ap₂}
+use mathlib.Core.Path.{_≡_, sym, _∙_, ap}
 use mathlib.Core.List.{List, _++_, map}
 use Prim.Native.Nat.{ℕ, _-_, _%_, _^_, _<_, _≤_}
 use native.Mathlib.Nat.{mod-eq-of-lt}
 use native.Mathlib.Decide.{ℕ-discrete}
 use native.Mathlib.Omega.{arith}
 use lib.IntN.{ℤ, pos}
-use lib.ListN.{length, getD, take, length-map, List·getD-append, List·getD-map}
+use lib.ListN.{getD, take, length-map, List·getD-append, List·getD-map}
 use lib.Seq.{getD-take}
 use borrow.Author.Tests.{eq-eqb, ne-eqb}
 use Rattle.file.specs.Accepted.{Accepted}

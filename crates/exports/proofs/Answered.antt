@@ -1,17 +1,15 @@
 -- What a call leaves, by the length of the lent answer slice; and the words of each answer by its cases.
-use mathlib.Core.Path.{_≡_, refl, sym, _∙_, ap}
+use mathlib.Core.Path.{_≡_, _∙_, ap}
 use mathlib.Core.Bool.{true, false}
 use mathlib.Core.Logic.{_⊎_, ⊎-elim}
 use mathlib.Core.List.{List, [], _∷_, _++_}
-use Prim.Native.Nat.{ℕ, _<_, _≤_}
+use Prim.Native.Nat.{ℕ}
 use native.Mathlib.Decide.{ℕ-discrete}
 use native.Mathlib.Omega.{arith}
-use lib.Dec.{eqb}
-use lib.ListN.{length, getD, take, drop, length-take, length-drop}
+use lib.ListN.{length, getD, length-take, length-drop}
 use lib.Seq.{take-all}
 use borrow.Author.Tests.{eq-eqb, ne-eqb}
 use Rattle.bound.specs.Bound.{bound}
-use Rattle.file.specs.Accepted.{Accepted}
 use Rattle.file.specs.Check.{fileNumber, refusalOf, stretchOf}
 use Rattle.file.specs.File.{headLength, sizesOf, stepCount, operationsOf}
 use Rattle.file.proofs.Accepted.{accepted}

@@ -6,19 +6,19 @@
 --   evaluateWords      the refusal, and the output
 --   rightLength n out  1 where the lent slice has n entries, else 0: what a call returns
 --   answered n out w   the lent slice afterwards: the words w where it has n entries, else untouched
-use mathlib.Core.Bool.{Bool, not, cond}
+use mathlib.Core.Bool.{cond}
 use mathlib.Core.List.{List, [], _∷_, _++_}
 use Prim.Native.Nat.{ℕ}
 use lib.Dec.{eqb}
 use lib.ListN.{length, replicate}
 use Rattle.bound.specs.Bound.{bound}
-use Rattle.evaluate.specs.Evaluate.{evaluatedAt, scratchAfter}
+use Rattle.evaluate.specs.Evaluate.{scratchAfter}
 use Rattle.evaluate.specs.declared.Evaluated.{Evaluated}
 use Rattle.file.specs.Check.{fileNumber, refusalOf}
 use Rattle.file.specs.File.{headLength, sizesOf, stepCount}
 use Rattle.grid.specs.Grid.{gridOf, tooLarge}
 use Rattle.grid.specs.declared.Grid.{Grid}
-use Rattle.sizes.specs.Sizes.{within, maxInputs, refusedBy, accepted}
+use Rattle.sizes.specs.Sizes.{within, refusedBy, accepted}
 use Rattle.sizes.specs.declared.Refusal.{Refusal}
 
 abbrev pub rightLength : ℕ → List ℕ → ℕ

@@ -1,11 +1,11 @@
 -- The axes of a grid: none is above 66, so eight of them give fewer than 2^64 vectors.
-use mathlib.Core.Path.{_≡_, sym, _∙_, ap, subst}
+use mathlib.Core.Path.{_≡_}
 use mathlib.Core.Bool.{false}
 use mathlib.Core.List.{List, [], _∷_}
-use Prim.Native.Nat.{ℕ, suc, _*_, _^_, _≤_, _<_, min}
-use native.Mathlib.Nat.{le-trans, le-refl, mul-le-mul, mul-comm, pow-succ', pow-le-pow-right, min-eq-left, min-eq-right, min-le-right, le-min, one-le-mul, one-le-pow}
+use Prim.Native.Nat.{ℕ, _^_, _≤_, _<_}
+use native.Mathlib.Nat.{le-trans, le-refl, mul-le-mul, pow-succ', pow-le-pow-right, min-eq-right, min-le-right, le-min, one-le-mul, one-le-pow}
 use native.Mathlib.Omega.{arith}
-use lib.Dec.{leb, lit≤, lit<}
+use lib.Dec.{lit≤, lit<}
 use lib.ListN.{length, length-take}
 use lib.Pow.{pow-mono}
 use borrow.Author.Tests.{lt-leb}

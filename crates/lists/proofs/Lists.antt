@@ -1,12 +1,12 @@
 -- Laws of lists: a map of an append, entries one by one, and the write that extends a list kept in the front of another. Each by recursion or by the laws of
 -- lib.Seq.
-use mathlib.Core.Path.{_≡_, refl, sym, _∙_, ap, ap₂}
+use mathlib.Core.Path.{_≡_, refl, sym, _∙_, ap}
 use mathlib.Core.List.{List, [], _∷_, _++_, map}
 use Prim.Native.Nat.{ℕ, zero, suc, _+_, _-_, _<_, _≤_}
 use native.Mathlib.Numerals.{add-one}
 use native.Mathlib.Omega.{arith}
-use lib.ListN.{length, getD, take, drop, set, replicate, length-map}
-use lib.Seq.{append-snoc, drop-cons, drop-drop, set-at, take-suc, length-take-le}
+use lib.ListN.{length, getD, take, drop, set}
+use lib.Seq.{append-snoc, drop-cons, drop-drop, set-at, take-suc}
 
 pub map-append {ℓ κ} : {A : Type ℓ} {B : Type κ} (f : A → B) (xs ys : List A) → map f (xs ++ ys) ≡ map f xs ++ map f ys
 map-append f [] ys = refl

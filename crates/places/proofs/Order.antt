@@ -1,8 +1,8 @@
 -- Dictionary order is a strict order: no vector is before itself, and it is transitive. By recursion on the vectors.
-use mathlib.Core.Path.{_≡_, _∙_, sym, subst, ap}
-use mathlib.Core.Logic.{_⊎_, inl, inr}
+use mathlib.Core.Path.{_∙_}
+use mathlib.Core.Logic.{inl, inr}
 use mathlib.Core.List.{List, [], _∷_}
-use Prim.Native.Nat.{ℕ, _<_}
+use Prim.Native.Nat.{ℕ}
 use native.Mathlib.Omega.{arith}
 use Rattle.places.specs.Places.{Before}
 

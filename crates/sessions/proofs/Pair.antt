@@ -1,12 +1,12 @@
 -- Two files judged together: each answer by the tests that lead to it, and what an accepted pair tells: both files are accepted and have the
 -- same sizes. Assumes nothing.
-use mathlib.Core.Path.{_≡_, refl, sym, _∙_, ap}
+use mathlib.Core.Path.{_≡_, refl, sym, _∙_}
 use mathlib.Core.Bool.{Bool, true, false, not, cond, and-eq-true-iff}
 use mathlib.Core.List.{List}
-use Prim.Native.Nat.{ℕ, _<_, _≤_}
+use Prim.Native.Nat.{ℕ}
 use native.Mathlib.Omega.{arith}
 use lib.Dec.{eqb}
-use lib.ListN.{length, getD, length-take, length-drop}
+use lib.ListN.{length, length-take, length-drop}
 use lib.Seq.{ext-getD}
 use borrow.Author.Tests.{eq-eqb, ne-eqb, eqb-true, not-false}
 use Rattle.engine.specs.Engine.{Comparable}
@@ -16,7 +16,6 @@ use Rattle.file.specs.File.{sizesOf}
 use Rattle.file.proofs.Accepted.{accepted}
 use Rattle.file.proofs.Number.{refusal-number}
 use Rattle.grid.proofs.Axes.{never-large}
-use Rattle.search.specs.Search.{every}
 use Rattle.search.proofs.Search.{every-at}
 use Rattle.sizes.specs.Sizes.{maxInputs, refusedBy}
 use Rattle.sizes.specs.declared.Refusal.{Refusal}

@@ -1,27 +1,27 @@
 -- The grid theorem. Let two datapaths differ at a full-width vector. Input by input, a value not below L(m) is replaced by one that is, and
 -- at which they still differ (Along): the vector then lies on the grid, and is the same or before. So no full-width vector at which they
 -- differ is before the first one on the grid; and the grid's order is that of its places.
-use mathlib.Core.Path.{_≡_, refl, sym, _∙_, ap, subst}
+use mathlib.Core.Path.{_≡_, refl, _∙_, ap, subst}
 use mathlib.Core.Bool.{Bool, true, false, not}
-use mathlib.Core.Logic.{_⊎_, inl, inr, ⊎-elim, _↔_}
+use mathlib.Core.Logic.{_⊎_, inl, inr, ⊎-elim}
 use mathlib.Core.List.{List, [], _∷_, _++_}
-use Prim.Native.Nat.{ℕ, zero, suc, _^_, _<_, _≤_, min}
+use Prim.Native.Nat.{ℕ, _^_, _<_, _≤_}
 use native.Mathlib.Nat.{eq-or-lt-of-le}
 use native.Mathlib.Decide.{decLt, ℕ-discrete}
 use native.Mathlib.Omega.{arith}
 use lib.Dec.{eqb}
 use lib.Seq.{append-snoc}
-use borrow.Author.Tests.{eqb-true, eqb-false, ne-eqb, not-true, not-false}
+use borrow.Author.Tests.{eqb-true, eqb-false, not-true, not-false}
 use Rattle.bound.specs.Axes.{ranges, axes, axis}
 use Rattle.bound.specs.Bound.{bound}
 use Rattle.places.specs.Places.{Below, Before, size, vectorAt, placeOf}
 use Rattle.places.proofs.Order.{before-irrefl, before-trans}
 use Rattle.places.proofs.Places.{oneToOne, before-place}
 use Rattle.search.specs.Search.{first}
-use Rattle.search.proofs.Search.{first-low, first-high, first-found, first-before}
+use Rattle.search.proofs.Search.{first-found, first-before}
 use Rattle.steps.specs.Steps.{Step, output}
-use Rattle.theorem.specs.Comparison.{Agree, differsAt, firstDifference, IsFirst}
-use Rattle.theorem.specs.Statement.{OnGrid, GridTheorem}
+use Rattle.theorem.specs.Comparison.{Agree, differsAt, firstDifference}
+use Rattle.theorem.specs.Statement.{GridTheorem}
 use Rattle.theorem.proofs.Along.{agree-along}
 
 -- every vector below the axes is full-width

@@ -1,8 +1,7 @@
 -- `evaluate::bad_vector` meets its contract. The loop's invariant: the vector is d long, and all values are in range just where those from
 -- i on are.
 -- Assumes nothing.
-use mathlib.Core.Bool.{not, _&&_}
-use mathlib.Core.Path.{_≡_, refl, sym, ap, _∙_}
+use mathlib.Core.Path.{_≡_, sym, _∙_}
 use Prim.Native.Nat.{_≤_, _-_}
 use native.Mathlib.Nat.{sub-zero}
 use native.Mathlib.Omega.{arith}

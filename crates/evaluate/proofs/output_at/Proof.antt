@@ -1,7 +1,7 @@
 -- `evaluate::output_at` meets its contract: the last of the values, cut to m bits. The entries past the n that are run stay.
 -- Assumes nothing.
-use mathlib.Core.List.{_++_, map}
-use mathlib.Core.Path.{_≡_, sym, _∙_, ap}
+use mathlib.Core.List.{map}
+use mathlib.Core.Path.{_∙_, ap}
 use Prim.Native.Nat.{_-_, _%_, _^_}
 use native.Mathlib.Omega.{arith}
 use denote.Ref.{now}

@@ -6,7 +6,6 @@ use mathlib.Core.Path.{_≡_, refl, sym, _∙_, ap, ap₂}
 use Prim.Native.Nat.{ℕ, _+_, _-_, _≤_, _<_}
 use native.Mathlib.Omega.{arith}
 use borrow.Author.Needs.{needs}
-use denote.Ref.{now}
 use lib.ListN.{length, getD, drop, set, length-map, length-set, length-drop}
 use lib.Seq.{take-at, drop-drop}
 use Rattle.file.specs.Steps.{stepAt, stepsOf}

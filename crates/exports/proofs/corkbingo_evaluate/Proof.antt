@@ -1,6 +1,6 @@
 -- `exports::corkbingo_evaluate` meets its contract: the answer of `evaluate`, as words, and the scratch slice as that call leaves it.
 -- Assumes nothing.
-use mathlib.Core.Path.{_≡_, _∙_, sym, ap}
+use mathlib.Core.Path.{_∙_, ap}
 use borrow.Author.Tests.{eq-eqb, ne-eqb}
 use denote.Ref.{now}
 use Rattle.exports.specs.Words.{evaluateWords, evaluateScratch}

@@ -1,6 +1,6 @@
 -- `exports::corkbingo_operations` meets its contract: an accepted file has a step, so that its stretch is empty only where it is refused.
 -- Assumes nothing.
-use mathlib.Core.Path.{_≡_, _∙_, sym, ap}
+use mathlib.Core.Path.{_∙_, ap}
 use mathlib.Core.Logic.{inl, inr, ⊎-elim}
 use lib.ListN.{length}
 use denote.Ref.{now}

@@ -1,14 +1,13 @@
 -- `sessions::advance` meets its contract, by the place that the engine came to.
 -- Assumes nothing.
-use mathlib.Core.Path.{_≡_, refl, sym, _∙_, ap, ap₂}
-use Prim.Native.Nat.{_+_, _-_, _≤_, _<_, min}
+use mathlib.Core.Path.{_≡_, _∙_, ap, ap₂}
+use Prim.Native.Nat.{_≤_}
 use native.Mathlib.Omega.{arith}
 use denote.Ref.{now}
 use Rattle.engine.specs.Engine.{outputsDiffer}
 use Rattle.file.specs.File.{sizesOf}
 use Rattle.grid.specs.Grid.{gridOf, gridSize}
 use Rattle.grid.specs.declared.Grid.{Grid}
-use Rattle.search.specs.Search.{first}
 use Rattle.search.proofs.Search.{first-low}
 use Rattle.sizes.specs.declared.Sizes.{Sizes}
 use Rattle.sessions.proofs.Cases.{handed, advanced-differs, advanced-equivalent, advanced-spent}

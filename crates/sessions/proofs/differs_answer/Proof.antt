@@ -1,7 +1,7 @@
 -- `sessions::differs_answer` meets its contract: the vector at the place, and the two outputs there. Each evaluation leaves the entries past
 -- its own count.
 -- Assumes nothing.
-use mathlib.Core.Path.{_≡_, sym, _∙_, ap}
+use mathlib.Core.Path.{_≡_, _∙_, ap}
 use native.Mathlib.Nat.{le-max-left, le-max-right}
 use native.Mathlib.Omega.{arith}
 use denote.Ref.{now}
@@ -13,7 +13,7 @@ use Rattle.evaluate.specs.Evaluate.{outputOf}
 use Rattle.file.specs.File.{sizesOf, stepCount}
 use Rattle.grid.specs.Grid.{axesOf, gridSize}
 use Rattle.lists.proofs.Lists.{drop-later}
-use Rattle.places.specs.Places.{size, vectorAt}
+use Rattle.places.specs.Places.{vectorAt}
 use Rattle.sizes.specs.declared.Sizes.{Sizes}
 use Rattle.vectors.specs.Vectors.{held}
 use Rattle.sessions.specs.Session.{differsAnswer}

@@ -1,11 +1,8 @@
 -- `sessions::plain_answer` meets its contract.
 -- Assumes nothing.
-use mathlib.Core.Path.{ap}
-use Rattle.sizes.specs.declared.Refusal.{Refusal}
 use Rattle.sizes.specs.Sizes.{maxInputs}
 use lib.ListN.{replicate}
 use Rattle.sessions.specs.Session.{plainAnswer}
-use Rattle.sessions.specs.declared.Answer.{Answer}
 use borrow.Author.Needs.{needs}
 use Rattle.sessions.proofs.plain_answer.Statement.{statement}
 use Rattle.sessions.proofs.plain_answer.Tie as tie

@@ -1,15 +1,13 @@
 -- `exports::session_calls::corkbingo_continue` meets its contract: the answer of `continue_session`, as words, the session that it hands back,
 -- and the scratch slice as that call leaves it.
 -- Assumes nothing.
-use mathlib.Core.Bool.{true, false}
-use mathlib.Core.Path.{_≡_, sym, _∙_, ap}
-use native.Mathlib.Omega.{arith}
+use mathlib.Core.Path.{sym, _∙_, ap}
 use borrow.Author.Tests.{not-true, not-false}
 use denote.Ref.{now}
 use lib.ListN.{length}
 use Rattle.sessions.specs.Session.{continued, scratchAfter}
 use Rattle.sessions.specs.declared.Continued.{Continued}
-use Rattle.exports.specs.SessionWords.{sessionWords, answerWords, continueFits}
+use Rattle.exports.specs.SessionWords.{sessionWords, answerWords}
 use Rattle.exports.proofs.Sessions.{told, continue-answer-wrong, continue-judged}
 use borrow.Author.Needs.{needs}
 use Rattle.exports.proofs.session_calls.corkbingo_continue.Statement.{statement}

@@ -1,6 +1,6 @@
 -- `exports::session_calls::corkbingo_open` meets its contract: the answer of `open_session`, as words.
 -- Assumes nothing.
-use mathlib.Core.Path.{_≡_, _∙_, ap}
+use mathlib.Core.Path.{_∙_, ap}
 use denote.Ref.{now}
 use Rattle.sessions.specs.declared.Opened.{Opened}
 use Rattle.exports.specs.SessionWords.{sessionWords}

@@ -1,12 +1,12 @@
 -- `exports::session_calls::put_session` meets its contract: the words one by one.
 -- Assumes nothing.
 use mathlib.Core.List.{[], _∷_, _++_}
-use mathlib.Core.Path.{_≡_, _∙_, ap, ap₂}
+use mathlib.Core.Path.{_∙_, ap}
 use Prim.Native.Nat.{ℕ}
 use lib.ListN.{getD}
 use mir.Syntax.{w64}
 use mir.Val.{Fits}
-use Rattle.exports.specs.SessionWords.{sessionWords, markWord}
+use Rattle.exports.specs.SessionWords.{sessionWords}
 use Rattle.exports.proofs.Answered.{eight}
 use borrow.Author.Needs.{needs}
 use Rattle.exports.proofs.session_calls.put_session.Statement.{statement}

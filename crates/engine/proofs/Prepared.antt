@@ -1,33 +1,26 @@
--- What the engine reads of two comparable files before its loop: the sizes, the axes, which are the first d entries of the grid's, and the
+-- What the engine reads of two comparable files before it compares: the sizes, the axes, which are the first d entries of the grid's, and the
 -- counts of steps.
 -- Assumes nothing.
 use mathlib.Core.Path.{_≡_, ap}
 use mathlib.Core.List.{List}
-use Prim.Native.Nat.{ℕ, _^_, _≤_, _<_, max}
+use Prim.Native.Nat.{ℕ, _*_, _^_, _≤_, _<_}
 use native.Mathlib.Omega.{arith}
 use borrow.Author.Tests.{leb-false}
 use lib.ListN.{length, take, length-map, length-take, length-drop}
 use lib.Seq.{take-at}
+use Rattle.batches.specs.Prepared.{Prepared}
 use Rattle.file.specs.Accepted.{Accepted}
 use Rattle.file.specs.File.{sizesOf, stepCount}
 use Rattle.grid.specs.Grid.{axesOf, gridOf, gridSize, tooLarge}
 use Rattle.grid.specs.declared.Grid.{Grid}
 use Rattle.grid.proofs.Axes.{never-large}
 use Rattle.places.specs.Places.{size}
+use Rattle.rows.specs.Rows.{laneCount}
 use Rattle.sizes.specs.declared.Sizes.{Sizes}
 use Rattle.engine.specs.Engine.{largerCount, Comparable}
+use Rattle.engine.specs.Stretch.{Stretch}
 
-pub record Prepared (s₁ s₂ : List ℕ) (d : ℕ) (axes : List ℕ) (n₁ n₂ end : ℕ) (scratch : List ℕ) : Type 0 where
-  pub files : Comparable s₁ s₂
-  pub inputs : d ≡ sizesOf s₁ .d
-  pub grid : take d axes ≡ axesOf (sizesOf s₁)
-  pub count₁ : n₁ ≡ stepCount s₁
-  pub count₂ : n₂ ≡ stepCount s₂
-  pub inside : end ≤ size (take d axes)
-  pub fits : end < 2 ^ 64
-  pub room : max n₁ n₂ ≤ length scratch
-
-grid-fits : (s : List ℕ) → Accepted s → gridSize (sizesOf s) < 2 ^ 64
+pub grid-fits : (s : List ℕ) → Accepted s → gridSize (sizesOf s) < 2 ^ 64
 unfolding tooLarge
 grid-fits s a = leb-false (2 ^ 64) _ (never-large (sizesOf s) (a .outputLow) (a .outputHigh) (a .inputsHigh))
 
@@ -43,18 +36,34 @@ module _ (s₁ s₂ : List ℕ) (z : Sizes) (g : Grid) (files : Comparable s₁ 
   pub axes-read : take (z .d) (g .axes) ≡ axesOf (sizesOf s₁)
   axes-read = rw (q, e) (axes-front s₁ (files .sound₁))
 
-  pub prepared :
-      (n₁ n₂ end : ℕ) (scratch : List ℕ) → n₁ ≡ stepCount s₁ → n₂ ≡ stepCount s₂ → end ≤ gridSize (sizesOf s₁) →
-      largerCount s₁ s₂ ≤ length scratch → Prepared s₁ s₂ (z .d) (g .axes) n₁ n₂ end scratch
+  pub stretch :
+      (n₁ n₂ from end : ℕ) (scratch : List ℕ) → n₁ ≡ stepCount s₁ → n₂ ≡ stepCount s₂ → from < end → end ≤ gridSize (sizesOf s₁) →
+      largerCount s₁ s₂ ≤ length scratch → Stretch s₁ s₂ n₁ n₂ (z .d) (g .axes) from end scratch
   unfolding gridSize
-  prepared n₁ n₂ end scratch c₁ c₂ h r =
+  stretch n₁ n₂ from end scratch c₁ c₂ l h r =
       record {
         files = files;
-        inputs = ap (λ (y : Sizes). y .d) e;
-        grid = axes-read;
         count₁ = c₁;
         count₂ = c₂;
+        inputs = ap (λ (y : Sizes). y .d) e;
+        grid = axes-read;
+        some = l;
         inside = rw axes-read h;
-        fits = omega (arith, grid-fits s₁ (files .sound₁));
         room = rw (c₁, c₂) r;
       }
+
+-- rows for `cap` steps are rows for the files' steps
+pub in-lanes :
+    {s₁ s₂ : List ℕ} {n₁ n₂ d : ℕ} {axes : List ℕ} {from end : ℕ} {scratch : List ℕ} → Stretch s₁ s₂ n₁ n₂ d axes from end scratch →
+    (cap : ℕ) (rows₁ rows₂ : List ℕ) → n₁ ≤ cap → n₂ ≤ cap → laneCount * cap ≤ length rows₁ → laneCount * cap ≤ length rows₂ →
+    Prepared s₁ s₂ n₁ n₂ d axes rows₁ rows₂
+in-lanes k cap rows₁ rows₂ h₁ h₂ l₁ l₂ =
+    record {
+      files = k .files;
+      count₁ = k .count₁;
+      count₂ = k .count₂;
+      inputs = k .inputs;
+      grid = k .grid;
+      room₁ = omega (arith, h₁, l₁);
+      room₂ = omega (arith, h₂, l₂);
+    }

@@ -1,4 +1,5 @@
 // The engine: two files compared place by place over the grid.
+use blocks::by_blocks;
 use evaluate::output_at;
 use file::fields::read_sizes;
 use file::fields::step_count;
@@ -7,7 +8,7 @@ use vectors::next_vector;
 use vectors::vector_at;
 ghost use mathlib.Core.Path.{_≡_};
 ghost use mathlib.Core.Bool.{not};
-ghost use Prim.Native.Nat.{_+_, _≤_, max};
+ghost use Prim.Native.Nat.{_+_, _-_, _≤_, max};
 ghost use lib.Dec.{eqb};
 ghost use lib.ListN.{length, drop};
 ghost use Rattle.evaluate.specs.Evaluate.{outputOf};
@@ -16,6 +17,7 @@ ghost use Rattle.file.specs.File.{sizesOf};
 ghost use Rattle.grid.specs.Grid.{gridSize};
 ghost use Rattle.search.specs.Search.{first};
 ghost use Rattle.engine.specs.Engine.{outputsDiffer, largerCount, Comparable};
+ghost use Rattle.engine.specs.Stretch.{Stretch};
 
 // Whether the outputs of two accepted files, of n1 and n2 steps, differ at a vector. Past the larger of these no scratch entry is touched.
 fn differ_at(
@@ -35,8 +37,109 @@ fn differ_at(
     output1 != output2
 }
 
+// The first place from `from` to before `end` at which the outputs differ, or `end` where there is none, place by place. The vector of the first
+// place is decoded, and each later one is stepped to.
+fn by_places(
+    file1: &[u8],
+    n1: usize,
+    file2: &[u8],
+    n2: usize,
+    axes: [u64; 8],
+    d: usize,
+    from: u64,
+    end: u64,
+    scratch: &mut [u64],
+) -> u64
+    requires { ⌜ Stretch (now file1) (now file2) n1 n2 d axes from end (now scratch) ⌝ }
+    ensures { λ r. ⌜ (r ≡ first (outputsDiffer (now (file1 .entry)) (now (file2 .entry))) from (end - from)) × (drop (max n1 n2) (now (scratch .exit)) ≡ drop (max n1 n2) (now (scratch .entry))) ⌝ }
+{
+    let mut v = vector_at(axes, d, from);
+    let mut p = from;
+    while p < end {
+        if differ_at(file1, n1, file2, n2, &v, scratch) {
+            return p;
+        }
+        v = next_vector(axes, d, v);
+        p += 1;
+    }
+    p
+}
+
+// The same in lanes, for files of at most 64 steps. The rows are set up here, where lanes are really run.
+fn in_short_lanes(
+    file1: &[u8],
+    n1: usize,
+    file2: &[u8],
+    n2: usize,
+    axes: [u64; 8],
+    d: usize,
+    from: u64,
+    end: u64,
+    scratch: &mut [u64],
+) -> u64
+    requires { ⌜ Stretch (now file1) (now file2) n1 n2 d axes from end (now scratch) ⌝ }
+    requires { ⌜ (n1 ≤ 64) × (n2 ≤ 64) ⌝ }
+    ensures { λ r. ⌜ (r ≡ first (outputsDiffer (now (file1 .entry)) (now (file2 .entry))) from (end - from)) × (drop (max n1 n2) (now (scratch .exit)) ≡ drop (max n1 n2) (now (scratch .entry))) ⌝ }
+{
+    let mut rows1 = [0u64; 1024];
+    let mut rows2 = [0u64; 1024];
+    let mut list1 = [0usize; 64];
+    let mut list2 = [0usize; 64];
+    by_blocks(
+        file1,
+        n1,
+        &mut rows1,
+        &mut list1,
+        file2,
+        n2,
+        &mut rows2,
+        &mut list2,
+        axes,
+        d,
+        from,
+        end,
+        scratch,
+    )
+}
+
+// The same in lanes, for files of any accepted length.
+fn in_long_lanes(
+    file1: &[u8],
+    n1: usize,
+    file2: &[u8],
+    n2: usize,
+    axes: [u64; 8],
+    d: usize,
+    from: u64,
+    end: u64,
+    scratch: &mut [u64],
+) -> u64
+    requires { ⌜ Stretch (now file1) (now file2) n1 n2 d axes from end (now scratch) ⌝ }
+    ensures { λ r. ⌜ (r ≡ first (outputsDiffer (now (file1 .entry)) (now (file2 .entry))) from (end - from)) × (drop (max n1 n2) (now (scratch .exit)) ≡ drop (max n1 n2) (now (scratch .entry))) ⌝ }
+{
+    let mut rows1 = [0u64; 16384];
+    let mut rows2 = [0u64; 16384];
+    let mut list1 = [0usize; 1024];
+    let mut list2 = [0usize; 1024];
+    by_blocks(
+        file1,
+        n1,
+        &mut rows1,
+        &mut list1,
+        file2,
+        n2,
+        &mut rows2,
+        &mut list2,
+        axes,
+        d,
+        from,
+        end,
+        scratch,
+    )
+}
+
 // The first place among the `count` from `from` on at which the outputs of two comparable files differ, or the end of these where there is
-// none. The vector of the first place is decoded, and each later one is stepped to. Past the larger N no scratch entry is touched.
+// none. Fewer places than lanes are compared one by one, more in lanes. Past the larger N no scratch entry is touched.
 pub fn first_difference(
     file1: &[u8],
     file2: &[u8],
@@ -58,14 +161,13 @@ pub fn first_difference(
     let n1 = step_count(file1);
     let n2 = step_count(file2);
     let end = from + count;
-    let mut v = vector_at(axes, d, from);
-    let mut p = from;
-    while p < end {
-        if differ_at(file1, n1, file2, n2, &v, scratch) {
-            return p;
-        }
-        v = next_vector(axes, d, v);
-        p += 1;
+    if count < 16 {
+        return by_places(file1, n1, file2, n2, axes, d, from, end, scratch);
     }
-    p
+    if n1 <= 64 {
+        if n2 <= 64 {
+            return in_short_lanes(file1, n1, file2, n2, axes, d, from, end, scratch);
+        }
+    }
+    in_long_lanes(file1, n1, file2, n2, axes, d, from, end, scratch)
 }

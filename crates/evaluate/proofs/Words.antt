@@ -6,7 +6,7 @@ use native.Mathlib.Nat.{mod-eq-of-lt}
 use native.Mathlib.Decide.{ℕ-discrete}
 use native.Mathlib.Omega.{arith}
 use lib.IntN.{ℤ, pos}
-use lib.ListN.{getD, take, length-map, List·getD-append, List·getD-map}
+use lib.ListN.{length, getD, take, length-map, List·getD-append, List·getD-map}
 use lib.Seq.{getD-take}
 use borrow.Author.Tests.{eq-eqb, ne-eqb}
 use Rattle.file.specs.Accepted.{Accepted}
@@ -16,7 +16,7 @@ use Rattle.file.proofs.Steps.{steps-length, step-input, step-constant, step-add
 use Rattle.integers.specs.Modulo.{remainder}
 use Rattle.integers.proofs.Remainder.{remainder-pos}
 use Rattle.steps.specs.Steps.{stepValue, values, exact, output}
-use Rattle.steps.proofs.Values.{length-values}
+use Rattle.steps.proofs.Values.{length-values, values-entries}
 use Rattle.words.specs.Words.{word}
 use Rattle.words.proofs.Congruence.{word-cut}
 use Rattle.evaluate.specs.Evaluate.{outputOf}
@@ -71,3 +71,8 @@ output-word s x rest a n e =
     ∙ List·getD-map word (values (stepsOf s) x n) (n - 1) (pos 0))
     ∙ word-cut (getD (values (stepsOf s) x n) (n - 1) (pos 0)) (sizesOf s .m) (a .outputHigh)
     ∙ ap (λ k. remainder (getD (values (stepsOf s) x k) (k - 1) (pos 0)) (2 ^ sizesOf s .m)) (e ∙ sym (steps-length s))
+
+-- the output reads no more of a vector than its entries
+pub output-entries : (s x y : List ℕ) → ((i : ℕ) → getD x i 0 ≡ getD y i 0) → outputOf s x ≡ outputOf s y
+unfolding outputOf output exact
+output-entries s x y e = rw (values-entries (stepsOf s) x y (length (stepsOf s)) e)

@@ -1,7 +1,8 @@
 -- The laws of bounded search, each by induction on the count.
 -- A loop that looks for the first j below n with f j keeps `first f 0 n ≡ first f j (n - j)`: first-start enters, first-step passes a j,
 -- first-here stops at one, first-end leaves. A loop that tests all j below n keeps `every f 0 n ≡ every f j (n - j)`: every-start,
--- every-step, every-not and every-end.
+-- every-step, every-not and every-end. A search may also be taken in parts: first-past passes a stretch with none, first-part ends inside a
+-- part, and first-shift makes the same tests elsewhere.
 -- Assumes nothing.
 use mathlib.Core.Bool.{Bool, true, false}
 use mathlib.Core.Logic.{_⊎_, inl, inr, ⊎-elim}
@@ -101,6 +102,27 @@ module _ (f : ℕ → Bool) where
       let q : n - j ≡ 0 = omega arith in
       ap (first f j) q ∙ first-none j
 
+  -- a stretch of k with none is passed
+  passed : (k p n : ℕ) → p + k ≤ n → NoneBelow p (p + k) → first f p (n - p) ≡ first f (p + k) (n - (p + k))
+  passed zero p n h none =
+      let q : p + 0 ≡ p = omega arith in
+      rw q
+  passed (suc k) p n h none =
+      let q : p + 1 + k ≡ p + suc k = omega arith in
+      first-step p n (omega arith) (none p (omega arith) (omega arith))
+      ∙ passed k (p + 1) n (omega arith) (λ i low high. none i (omega arith) (omega arith))
+      ∙ ap (λ i. first f i (n - i)) q
+
+  pub first-past : (p q n : ℕ) → p ≤ q → q ≤ n → NoneBelow p q → first f p (n - p) ≡ first f q (n - q)
+  first-past p q n low high none =
+      let e : p + (q - p) ≡ q = omega arith in
+      passed (q - p) p n (omega arith) (λ i l h. none i l (omega arith)) ∙ ap (λ i. first f i (n - i)) e
+
+  -- a search that finds in the first k of n finds the same in all
+  pub first-part : (p k n : ℕ) → first f p k < p + k → p + k ≤ n → first f p (n - p) ≡ first f p k
+  first-part p k n h r =
+      first-unique p (n - p) (first f p k) (first-low p k) (omega (arith, first-low p k)) (first-found p k h) (first-before p k)
+
   pub every-none : (j : ℕ) → every f j 0 ≡ true
   unfolding every
   every-none j = refl
@@ -148,3 +170,19 @@ module _ (f : ℕ → Bool) where
   every-end j n l =
       let q : n - j ≡ 0 = omega arith in
       ap (every f j) q ∙ every-none j
+
+-- the same tests p further on
+pub first-shift :
+    (f g : ℕ → Bool) (p j k : ℕ) → ((i : ℕ) → j ≤ i → i < j + k → f (p + i) ≡ g i) → first f (p + j) k ≡ p + first g j k
+first-shift f g p j zero e = first-none f (p + j) ∙ ap (λ i. p + i) (sym (first-none g j))
+first-shift f g p j (suc k) e =
+    ⊎-elim
+    (λ (t : g j ≡ true).
+    first-here f (p + j) (suc k) (e j (omega arith) (omega arith) ∙ t) ∙ ap (λ i. p + i) (sym (first-here g j (suc k) t)))
+    (λ (t : g j ≡ false).
+    let q : p + j + 1 ≡ p + (j + 1) = omega arith in
+    first-later f (p + j) k (e j (omega arith) (omega arith) ∙ t)
+    ∙ ap (λ i. first f i k) q
+    ∙ first-shift f g p (j + 1) k (λ i low high. e i (omega arith) (omega arith))
+    ∙ ap (λ i. p + i) (sym (first-later g j k t)))
+    (true-or-false (g j))

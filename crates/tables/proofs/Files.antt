@@ -1,12 +1,12 @@
 -- The table of a file. Its outputs are its exact values modulo 2^m, and functions that are congruent over the grid have equal tables: so the
 -- outputs, differenced, give the table of the exact values; and that table, summed, gives the outputs.
-use mathlib.Core.Path.{_≡_, refl, sym, _∙_, ap}
-use mathlib.Core.List.{List, [], _∷_, _++_}
-use Prim.Native.Nat.{ℕ, zero, suc, _-_, _^_, _≤_, _<_}
+use mathlib.Core.Path.{_≡_, sym, _∙_, ap}
+use mathlib.Core.List.{List, _++_}
+use Prim.Native.Nat.{ℕ, _^_, _≤_, _<_}
 use native.Mathlib.Nat.{mod-eq-of-lt}
 use native.Mathlib.Omega.{arith}
 use lib.IntN.{ℤ, negsuc}
-use lib.ListN.{length, getD, take, drop, replicate, length-take, length-drop}
+use lib.ListN.{length, take, drop, length-take, length-drop}
 use lib.Pow.{pow-pos}
 use lib.Seq.{take-all}
 use Rattle.differences.specs.Table.{mixedDifference, listed, tableOf, given}
@@ -22,11 +22,8 @@ use Rattle.grid.specs.declared.Grid.{Grid}
 use Rattle.integers.specs.Modulo.{remainder}
 use Rattle.integers.proofs.Remainder.{remainder-pos, remainder-lt}
 use Rattle.places.specs.Places.{Below, size, vectorAt}
-use Rattle.sizes.specs.Sizes.{maxInputs}
 use Rattle.sizes.specs.declared.Sizes.{Sizes}
 use Rattle.steps.specs.Steps.{exact, output}
-use Rattle.steps.proofs.Values.{values-entries}
-use Rattle.vectors.specs.Vectors.{held}
 use Rattle.tables.specs.Filling.{Filling}
 use Rattle.tables.specs.Tables.{tableOfFile, differencesOf, sumsOf}
 use Rattle.tables.proofs.Grids.{Sound, grid-axes, grid-least, in-place}
@@ -60,18 +57,6 @@ module _ (s : List ℕ) where
   pub table-sums : sumsOf (sizesOf s) (tableOfFile s) ≡ listed (axesOf (sizesOf s)) (outputOf s)
   unfolding sumsOf tableOfFile outputOf output
   table-sums = sumOfTable (2 ^ sizesOf s .m) (pow-pos (sizesOf s .m)) (axesOf (sizesOf s)) (exact (stepsOf s))
-
-  -- a value past a vector's end is 0, as those are that fill it up
-  pub output-held : (v : List ℕ) → outputOf s (held v) ≡ outputOf s v
-  unfolding outputOf output exact
-  output-held v = rw (values-entries (stepsOf s) (held v) v (length (stepsOf s)) (padded v (maxInputs - length v)))
-    where
-      padded : (v : List ℕ) (n i : ℕ) → getD (v ++ replicate n 0) i 0 ≡ getD v i 0
-      padded [] zero i = refl
-      padded [] (suc n) zero = refl
-      padded [] (suc n) (suc i) = padded [] n i
-      padded (x ∷ v) n zero = refl
-      padded (x ∷ v) n (suc i) = padded v n i
 
 -- the sizes and the grid of an accepted file, as the code has them
 module _ (s : List ℕ) (a : Accepted s) (z : Sizes) (ez : z ≡ sizesOf s) (g : Grid) (eg : g ≡ gridOf z) where

@@ -11,14 +11,15 @@ use lib.Seq.{take-all}
 use Rattle.differences.specs.Table.{listed}
 use Rattle.differences.proofs.Listed.{length-values, getD-values}
 use Rattle.evaluate.specs.Evaluate.{outputOf}
+use Rattle.evaluate.proofs.Words.{output-entries}
 use Rattle.evaluate.specs.Run.{Ready}
 use Rattle.places.specs.Places.{size, vectorAt}
 use Rattle.sizes.specs.Sizes.{maxInputs}
 use Rattle.vectors.specs.Vectors.{held, Placed}
+use Rattle.vectors.proofs.Held.{held-entry}
 use Rattle.tables.specs.Filling.{Filling}
 use Rattle.tables.proofs.Copied as Written
 use Rattle.tables.proofs.Copied.{Copied}
-use Rattle.tables.proofs.Files.{output-held}
 use Rattle.tables.proofs.fill_outputs.Statement.{statement}
 use Rattle.tables.proofs.fill_outputs.Tie as tie
 
@@ -59,7 +60,7 @@ module _
       output-here : outputOf s v ≡ getD (listed (take d axes) (outputOf s)) p 0
       output-here =
           ap (outputOf s) (k .vector t)
-          ∙ output-held s (vectorAt (take d axes) p)
+          ∙ output-entries s (held (vectorAt (take d axes) p)) (vectorAt (take d axes) p) (held-entry (vectorAt (take d axes) p))
           ∙ sym (getD-values (λ q. outputOf s (vectorAt (take d axes) q)) 0 (size (take d axes)) 0 p inside ∙ ap (λ q. outputOf s (vectorAt (take d axes) q)) (omega arith))
 
       more :

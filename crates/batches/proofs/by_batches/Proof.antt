@@ -1,0 +1,153 @@
+-- `batches::by_batches` meets its contract. The loop's invariant: the outputs agree at every place passed.
+-- Assumes nothing.
+use mathlib.Core.Bool.{Bool}
+use mathlib.Core.List.{List}
+use mathlib.Core.Logic.{_⊎_, ⊎-elim}
+use mathlib.Core.Path.{_≡_, refl, sym, _∙_, ap}
+use Prim.Native.Nat.{ℕ, _+_, _*_, _-_, _≤_, _<_}
+use native.Mathlib.Omega.{arith}
+use borrow.Author.Needs.{needs}
+use lib.ListN.{length, take}
+use Rattle.places.specs.Places.{size}
+use Rattle.rows.specs.Rows.{laneCount}
+use Rattle.search.specs.Search.{first}
+use Rattle.search.proofs.Search.{first-high, first-before, first-end, first-past, first-part}
+use Rattle.batches.specs.Comparison.{outputsDiffer}
+use Rattle.batches.specs.Prepared.{Prepared}
+use Rattle.batches.proofs.Tests.{prepared-kept}
+use Rattle.batches.proofs.by_batches.Statement.{statement}
+use Rattle.batches.proofs.by_batches.Tie as tie
+
+record Passed (s₁ s₂ : List ℕ) (n₁ n₂ d : ℕ) (axes : List ℕ) (from end : ℕ) (rows₁₀ rows₂₀ rows₁ rows₂ inputs : List ℕ) (p : ℕ) : Type 0 where
+  prepared : Prepared s₁ s₂ n₁ n₂ d axes rows₁ rows₂
+  long₁ : length rows₁ ≡ length rows₁₀
+  long₂ : length rows₂ ≡ length rows₂₀
+  lanes : length inputs ≡ 128
+  within : p ≤ end
+  inside : end ≤ size (take d axes)
+  same : first (outputsDiffer s₁ s₂) from (end - from) ≡ first (outputsDiffer s₁ s₂) p (end - p)
+
+-- the lanes of a batch that starts at p
+record Batch (p end live : ℕ) : Type 0 where
+  some : 1 ≤ live
+  room : live ≤ laneCount
+  part : p + live ≤ end
+
+module _
+    {s₁ s₂ : List ℕ} {n₁ n₂ d : ℕ} {axes : List ℕ} {from end : ℕ} {rows₁₀ rows₂₀ rows₁ rows₂ inputs : List ℕ} {p : ℕ}
+    (k : Passed s₁ s₂ n₁ n₂ d axes from end rows₁₀ rows₂₀ rows₁ rows₂ inputs p)
+  where
+    abbrev f : ℕ → Bool
+    f = outputsDiffer s₁ s₂
+
+    finished : end ≤ p → p ≡ first f from (end - from)
+    finished h = sym (k .same ∙ first-end f p end h)
+
+    module _ {live : ℕ} (l : ℕ) (b : Batch p end live) (e : p + l ≡ first f p live) where
+      short : p + l ≤ end
+      short = omega (arith, e, first-high f p live, b .part)
+
+      found : l < live → p + l ≡ first f from (end - from)
+      found h = e ∙ sym (k .same ∙ first-part f p live end (omega (arith, e)) (b .part))
+
+      more :
+          (rows₁' rows₂' inputs' : List ℕ) → length rows₁' ≡ length rows₁ → length rows₂' ≡ length rows₂ → length inputs' ≡ length inputs →
+          live ≤ l → Passed s₁ s₂ n₁ n₂ d axes from end rows₁₀ rows₂₀ rows₁' rows₂' inputs' (p + l)
+      more rows₁' rows₂' inputs' e₁ e₂ e₃ h =
+          record {
+            prepared = prepared-kept (k .prepared) rows₁' rows₂' e₁ e₂;
+            long₁ = e₁ ∙ k .long₁;
+            long₂ = e₂ ∙ k .long₂;
+            lanes = e₃ ∙ k .lanes;
+            within = short;
+            inside = k .inside;
+            same = k .same ∙ first-past f p (p + l) end (omega arith) short (λ i low high. first-before f p live i low (omega (arith, e)));
+          }
+
+abbrev Inv-loop : tie.InvT-loop
+Inv-loop file1 n1 file2 n2 axes d from end rows1₀ rows2₀ inputs₀ p₀ rows1 rows2 inputs p =
+    Passed file1 file2 n1 n2 d axes from end rows1₀ rows2₀ rows1 rows2 inputs p
+
+abbrev μ-loop : tie.MeasureT-loop
+μ-loop file1 n1 file2 n2 axes d from end rows1₀ rows2₀ inputs₀ p₀ rows1 rows2 inputs p = end - p
+
+batch : (c : tie.Joined1 Inv-loop μ-loop) → Batch (c .before .before .loop .p) (c .before .before .before .before .before .before .before .args .end) (c .if1 .live)
+batch c =
+    ⊎-elim
+    (λ came. let t = c .before .loop-test .taken in record { some = omega (arith, came .1, t); room = omega (arith, came .0 .taken, came .1); part = omega (arith, came .1, t) })
+    (λ came. record { some = omega (arith, came .1); room = omega (arith, came .1); part = omega (arith, came .0 .left, came .1) })
+    (c .if1 .came)
+
+loop-holds : tie.Need-loop-holds Inv-loop μ-loop
+loop-holds c =
+    let q = c .before .before .before .before .pre in
+    record { prepared = q .0; long₁ = refl; long₂ = refl; lanes = refl; within = q .1 .0; inside = q .1 .1; same = refl }
+
+sub-rest : tie.Need-sub-rest Inv-loop μ-loop
+sub-rest c = search needs
+
+slice-aggregate-first-in-batch : tie.Need-slice-aggregate-first-in-batch Inv-loop μ-loop
+slice-aggregate-first-in-batch c = sym (c .before .before .before .loop .inv .lanes)
+
+first-in-batch-requires : tie.Need-first-in-batch-requires Inv-loop μ-loop
+first-in-batch-requires c κs =
+    let k = c .before .before .before .before .before .loop .inv in
+    let b = batch (c .before .before .before) in
+    (k .prepared, (omega (arith, k .lanes, k .prepared .inputs, k .prepared .files .sound₁ .inputsHigh), b .some, b .room, omega (arith, b .part, k .inside)))
+
+add-p : tie.Need-add-p Inv-loop μ-loop
+add-p c = omega (arith, short (c .before .before .before .before .before .before .before .before .before .before .before .loop .inv) _ (batch (c .before .before .before .before .before .before .before .before .before)) (c .before .before .before .before .before .first-in-batch .ensures))
+
+same-length : tie.Need-same-length Inv-loop μ-loop
+same-length c = c .before .before .before .before .before .before .first-in-batch .kept .1 .1 .1 .1 .1 .1 .1 .1 .1 .0 ∙ c .before .before .before .before .before .before .before .before .before .before .before .before .loop .inv .long₁
+
+same-length-2 : tie.Need-same-length-2 Inv-loop μ-loop
+same-length-2 c = c .before .before .before .before .before .before .first-in-batch .kept .1 .1 .1 .1 .1 .1 .1 .1 .1 .1 .0 ∙ c .before .before .before .before .before .before .before .before .before .before .before .before .loop .inv .long₂
+
+returns : tie.Need-returns Inv-loop μ-loop
+returns c = found (c .before .before .before .before .before .before .before .before .before .before .before .before .loop .inv) _ (batch (c .before .before .before .before .before .before .before .before .before .before)) (c .before .before .before .before .before .before .first-in-batch .ensures) (c .if2 .taken)
+
+loop-less : tie.Need-loop-less Inv-loop μ-loop
+loop-less c =
+    omega (
+      arith,
+      c .before .before .before .before .before .before .before .before .before .before .before .loop-test .taken,
+      batch (c .before .before .before .before .before .before .before .before .before .before) .some,
+      c .if2 .left,
+      short (c .before .before .before .before .before .before .before .before .before .before .before .before .loop .inv) _ (batch (c .before .before .before .before .before .before .before .before .before .before)) (c .before .before .before .before .before .before .first-in-batch .ensures),
+    )
+
+loop-again : tie.Need-loop-again Inv-loop μ-loop
+loop-again c =
+    let called = c .before .before .before .before .before .before .first-in-batch in
+    more (c .before .before .before .before .before .before .before .before .before .before .before .before .loop .inv) _ (batch (c .before .before .before .before .before .before .before .before .before .before)) (called .ensures) _ _ _ (called .kept .1 .1 .1 .1 .1 .1 .1 .1 .1 .0)
+    (called .kept .1 .1 .1 .1 .1 .1 .1 .1 .1 .1 .0) (called .kept .1 .1 .1 .1 .1 .1 .1 .1 .0) (c .if2 .left)
+
+same-length-3 : tie.Need-same-length-3 Inv-loop μ-loop
+same-length-3 c = c .before .loop .inv .long₁
+
+same-length-4 : tie.Need-same-length-4 Inv-loop μ-loop
+same-length-4 c = c .before .loop .inv .long₂
+
+returns-2 : tie.Need-returns-2 Inv-loop μ-loop
+returns-2 c = finished (c .before .loop .inv) (c .loop-test .left)
+
+pub by-batches-spec : {M : Type 1} → statement M
+by-batches-spec =
+    tie.close
+    (tie.spec
+    Inv-loop
+    μ-loop
+    loop-holds
+    sub-rest
+    slice-aggregate-first-in-batch
+    first-in-batch-requires
+    add-p
+    same-length
+    same-length-2
+    returns
+    loop-less
+    loop-again
+    same-length-3
+    same-length-4
+    returns-2)

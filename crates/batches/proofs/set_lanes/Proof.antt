@@ -1,0 +1,127 @@
+-- `batches::set_lanes` meets its contract. The loop's invariant: v is the vector of the last lane set, and the lanes set hold theirs.
+-- Assumes nothing.
+use mathlib.Core.Path.{_≡_, refl, sym, _∙_, ap}
+use mathlib.Core.Logic.{⊎-elim}
+use mathlib.Core.List.{List}
+use Prim.Native.Nat.{ℕ, _+_, _-_, _≤_, _<_}
+use native.Mathlib.Nat.{eq-or-lt-of-le, add-zero}
+use native.Mathlib.Omega.{arith}
+use borrow.Author.Needs.{needs}
+use denote.Ref.{now}
+use lib.ListN.{length, getD, take}
+use Rattle.places.specs.Places.{size, vectorAt}
+use Rattle.rows.specs.Rows.{laneCount, lane}
+use Rattle.vectors.specs.Vectors.{held, Placed}
+use Rattle.vectors.proofs.Held.{held-entry}
+use Rattle.batches.proofs.set_lanes.Statement.{statement}
+use Rattle.batches.proofs.set_lanes.Tie as tie
+
+record Columns (us : List ℕ) (d p live : ℕ) (inputs₀ inputs v : List ℕ) (l : ℕ) : Type 0 where
+  some : 1 ≤ l
+  within : l ≤ live
+  long : length inputs ≡ length inputs₀
+  vector : v ≡ held (vectorAt us (p + (l - 1)))
+  columns : (i k : ℕ) → i < d → k < l → lane inputs i k ≡ getD (vectorAt us (p + k)) i 0
+
+module _ (us : List ℕ) (d p live : ℕ) (inputs₀ inputs' v : List ℕ) (long : length inputs' ≡ length inputs₀) (room : live ≤ laneCount) where
+  -- lane l is set to the vector v at place q = p + l
+  more :
+      (inputs : List ℕ) (l q : ℕ) → l < live → v ≡ held (vectorAt us q) → q ≡ p + l → ((i : ℕ) → i < d → lane inputs' i l ≡ getD v i 0) →
+      ((i k : ℕ) → k < laneCount → ¬ (k ≡ l) → lane inputs' i k ≡ lane inputs i k) →
+      ((i k : ℕ) → i < d → k < l → lane inputs i k ≡ getD (vectorAt us (p + k)) i 0) → Columns us d p live inputs₀ inputs' v (l + 1)
+  more inputs l q h e at here others before =
+      let back : l + 1 - 1 ≡ l = omega arith in
+      record {
+        some = omega arith;
+        within = omega arith;
+        long = long;
+        vector = rw (back, ← at) e;
+        columns = λ i k hi hk. ⊎-elim
+            (λ (same : k ≡ l). rw (same, ← at) (here i hi ∙ ap (λ w. getD w i 0) e ∙ held-entry (vectorAt us q) i))
+            (λ (less : k < l). others i k (omega arith) (λ same. omega arith) ∙ before i k hi less)
+            (eq-or-lt-of-le (omega arith));
+      }
+
+  start :
+      (inputs : List ℕ) → 1 ≤ live → v ≡ held (vectorAt us p) → ((i : ℕ) → i < d → lane inputs' i 0 ≡ getD v i 0) →
+      ((i k : ℕ) → k < laneCount → ¬ (k ≡ 0) → lane inputs' i k ≡ lane inputs i k) → Columns us d p live inputs₀ inputs' v 1
+  start inputs h e here others = more inputs 0 p h e (omega arith) here others (λ i k hi hk. absurd (omega arith))
+
+abbrev Inv-loop : tie.InvT-loop
+Inv-loop inputs₀ axes d p live v₀ l₀ inputs v l = Columns (take d axes) d p live inputs₀ inputs v l
+
+abbrev μ-loop : tie.MeasureT-loop
+μ-loop inputs₀ axes d p live v₀ l₀ inputs v l = live - l
+
+vector-at-requires : tie.Need-vector-at-requires Inv-loop μ-loop
+vector-at-requires c κs =
+    let q = c .before .pre in
+    (q .0, omega (arith, q .2, q .4))
+
+set-column-requires : tie.Need-set-column-requires Inv-loop μ-loop
+set-column-requires c κs = search needs
+
+loop-holds : tie.Need-loop-holds Inv-loop μ-loop
+loop-holds c =
+    let q = c .before .before .before .before .before .before .pre in
+    let set = c .before .before .set-column .ensures in
+    start _ _ _ _ _ _ _ refl (q .3) (now (c .before .before .before .before .before .before .args .inputs)) (q .2)
+    (c .before .before .before .before .vector-at .ensures) (λ i h. set .0 i (omega (arith, h, q .0))) (set .1)
+
+next-vector-requires : tie.Need-next-vector-requires Inv-loop μ-loop
+next-vector-requires c κs =
+    let q = c .before .before .before .before .before .before .before .before .pre in
+    let k = c .before .loop .inv in
+    let p = c .before .before .before .before .before .before .before .before .args .p in
+    (q .0, record { place = p + (c .before .loop .l - 1); inside = omega (arith, q .4, k .within, k .some); shape = k .vector })
+
+set-column-requires-2 : tie.Need-set-column-requires-2 Inv-loop μ-loop
+set-column-requires-2 c κs =
+    let q = c .before .before .before .before .before .before .before .before .before .before .pre in
+    let k = c .before .before .before .loop .inv in (
+      omega (arith, q .3, c .before .before .loop-test .taken),
+      omega (arith, q .1, k .long, c .before .before .before .before .before .before .set-column .kept .0),
+    )
+
+add-l : tie.Need-add-l Inv-loop μ-loop
+add-l c = search needs
+
+loop-less : tie.Need-loop-less Inv-loop μ-loop
+loop-less c = search needs
+
+loop-again : tie.Need-loop-again Inv-loop μ-loop
+loop-again c =
+    let q = c .before .before .before .before .before .before .before .before .before .before .before .before .before .pre in
+    let k = c .before .before .before .before .before .before .loop .inv in
+    let set = c .before .before .set-column2 in
+    let t = c .before .before .before .before .before .loop-test .taken in
+    let p = c .before .before .before .before .before .before .before .before .before .before .before .before .before .args .p in
+    let l = c .before .before .before .before .before .before .loop .l in
+    more _ _ _ _ _ _ _ (set .kept .0 ∙ k .long) (q .3) (c .before .before .before .before .before .before .loop .inputs) l (p + (l - 1) + 1) t
+    (c .before .before .before .before .next-vector .ensures (p + (l - 1)) (omega (arith, q .4, t, k .some)) (k .vector)) (omega (arith, k .some))
+    (λ i h. set .ensures .0 i (omega (arith, h, q .0))) (set .ensures .1) (k .columns)
+
+same-length : tie.Need-same-length Inv-loop μ-loop
+same-length c = search needs
+
+returns : tie.Need-returns Inv-loop μ-loop
+returns c =
+    let k = c .before .loop .inv in
+    λ i l hi hl. k .columns i l hi (omega (arith, c .loop-test .left))
+
+pub set-lanes-spec : {M : Type 1} → statement M
+set-lanes-spec =
+    tie.close
+    (tie.spec
+    Inv-loop
+    μ-loop
+    vector-at-requires
+    set-column-requires
+    loop-holds
+    next-vector-requires
+    set-column-requires-2
+    add-l
+    loop-less
+    loop-again
+    same-length
+    returns)

@@ -1,0 +1,171 @@
+-- `engine::by_places` meets its contract. The loop's invariant: v holds the vector at place p while p is before the end, the outputs
+-- agree at every place passed, and the scratch entries past the larger count are as at entry.
+-- Assumes nothing.
+use mathlib.Core.Path.{_≡_, refl, sym, _∙_, ap}
+use mathlib.Core.Bool.{Bool, true, false, not}
+use mathlib.Core.List.{List}
+use Prim.Native.Nat.{ℕ, _+_, _-_, _≤_, _<_, max}
+use native.Mathlib.Nat.{le-max-left, le-max-right}
+use native.Mathlib.Omega.{arith}
+use borrow.Author.Needs.{needs}
+use denote.Ref.{now}
+use lib.Dec.{eqb}
+use lib.ListN.{length, take, drop}
+use Rattle.evaluate.specs.Evaluate.{outputOf}
+use Rattle.evaluate.specs.Run.{Ready}
+use Rattle.places.specs.Places.{size, vectorAt}
+use Rattle.search.specs.Search.{first}
+use Rattle.search.proofs.Search.{first-none, first-here, first-step, first-end}
+use Rattle.sizes.specs.Sizes.{maxInputs}
+use Rattle.vectors.specs.Vectors.{held, Placed}
+use Rattle.engine.specs.Engine.{outputsDiffer}
+use Rattle.engine.specs.Stretch.{Stretch}
+use Rattle.engine.proofs.Outputs.{test-held}
+use Rattle.engine.proofs.by_places.Statement.{statement}
+use Rattle.engine.proofs.by_places.Tie as tie
+
+record Passed (s₁ s₂ : List ℕ) (n₁ n₂ d : ℕ) (axes : List ℕ) (from end : ℕ) (scratch₀ scratch v : List ℕ) (p : ℕ) : Type 0 where
+  stretch : Stretch s₁ s₂ n₁ n₂ d axes from end scratch₀
+  long : length scratch ≡ length scratch₀
+  kept : drop (max n₁ n₂) scratch ≡ drop (max n₁ n₂) scratch₀
+  within : p ≤ end
+  full : length v ≡ maxInputs
+  vector : p < end → v ≡ held (vectorAt (take d axes) p)
+  same : first (outputsDiffer s₁ s₂) from (end - from) ≡ first (outputsDiffer s₁ s₂) p (end - p)
+
+module _
+    {s₁ s₂ : List ℕ} {n₁ n₂ d : ℕ} {axes : List ℕ} {from end : ℕ} {scratch₀ scratch v : List ℕ} {p : ℕ}
+    (k : Passed s₁ s₂ n₁ n₂ d axes from end scratch₀ scratch v p)
+  where
+    finished : end ≤ p → p ≡ first (outputsDiffer s₁ s₂) from (end - from)
+    finished h = sym (k .same ∙ first-end (outputsDiffer s₁ s₂) p end h)
+
+    module _ (t : p < end) where
+      ready₁ : Ready s₁ n₁ v scratch
+      ready₁ =
+          record {
+            sound = k .stretch .files .sound₁;
+            count = k .stretch .count₁;
+            inputs = omega (arith, k .full, k .stretch .files .sound₁ .inputsHigh);
+            room = omega (arith, k .long, k .stretch .room, le-max-left n₁ n₂);
+          }
+
+      ready₂ : Ready s₂ n₂ v scratch
+      ready₂ =
+          record {
+            sound = k .stretch .files .sound₂;
+            count = k .stretch .count₂;
+            inputs = omega (arith, k .full, k .stretch .files .sound₂ .inputsHigh);
+            room = omega (arith, k .long, k .stretch .room, le-max-right n₁ n₂);
+          }
+
+      placed : Placed (take d axes) v
+      placed = record { place = p; inside = omega (arith, k .stretch .inside); shape = k .vector t }
+
+      -- b is the outcome of the test at this place
+      module _ (b : Bool) (tested : b ≡ not (eqb (outputOf s₁ v) (outputOf s₂ v))) where
+        test : b ≡ outputsDiffer s₁ s₂ p
+        test = tested ∙ test-held s₁ s₂ v p (k .stretch .files .same) (k .vector t ∙ ap (λ us. held (vectorAt us p)) (k .stretch .grid))
+
+        found : b ≡ true → p ≡ first (outputsDiffer s₁ s₂) from (end - from)
+        found e = sym (k .same ∙ first-here (outputsDiffer s₁ s₂) p (end - p) (sym test ∙ e))
+
+        more :
+            (scratch' v' : List ℕ) → b ≡ false → length scratch' ≡ length scratch → drop (max n₁ n₂) scratch' ≡ drop (max n₁ n₂) scratch →
+            length v' ≡ maxInputs →
+            ((q : ℕ) → q + 1 < size (take d axes) → v ≡ held (vectorAt (take d axes) q) → v' ≡ held (vectorAt (take d axes) (q + 1))) →
+            Passed s₁ s₂ n₁ n₂ d axes from end scratch₀ scratch' v' (p + 1)
+        more scratch' v' e l q w step =
+            record {
+              stretch = k .stretch;
+              long = l ∙ k .long;
+              kept = q ∙ k .kept;
+              within = omega arith;
+              full = w;
+              vector = λ h. step p (omega (arith, k .stretch .inside)) (k .vector t);
+              same = k .same ∙ first-step (outputsDiffer s₁ s₂) p end t (sym test ∙ e);
+            }
+
+abbrev Inv-loop : tie.InvT-loop
+Inv-loop file1 n1 file2 n2 axes d from end scratch₀ v₀ p₀ scratch v p = Passed file1 file2 n1 n2 d axes from end scratch₀ scratch v p
+
+abbrev μ-loop : tie.MeasureT-loop
+μ-loop file1 n1 file2 n2 axes d from end scratch₀ v₀ p₀ scratch v p = end - p
+
+vector-at-requires : tie.Need-vector-at-requires Inv-loop μ-loop
+vector-at-requires c κs =
+    let k = c .before .before .before .pre in
+    (omega (arith, k .inputs, k .files .sound₁ .inputsHigh), omega (arith, k .some, k .inside))
+
+loop-holds : tie.Need-loop-holds Inv-loop μ-loop
+loop-holds c =
+    record {
+      stretch = c .before .before .before .before .pre;
+      long = refl;
+      kept = refl;
+      within = omega (arith, c .before .before .before .before .pre .some);
+      full = search needs;
+      vector = λ h. c .vector-at .ensures;
+      same = refl;
+    }
+
+slice-aggregate-differ-at : tie.Need-slice-aggregate-differ-at Inv-loop μ-loop
+slice-aggregate-differ-at c = sym (c .before .before .loop .inv .full)
+
+differ-at-requires : tie.Need-differ-at-requires Inv-loop μ-loop
+differ-at-requires c κs =
+    let k = c .before .before .before .loop .inv in
+    let t = c .before .before .loop-test .taken in
+    (ready₁ k t, ready₂ k t)
+
+same-length : tie.Need-same-length Inv-loop μ-loop
+same-length c = c .before .before .before .differ-at .kept .1 .1 .1 .1 .1 .0 ∙ c .before .before .before .before .before .before .before .loop .inv .long
+
+returns : tie.Need-returns Inv-loop μ-loop
+returns c =
+    let k = c .before .before .before .before .before .before .before .loop .inv in
+    let e = c .before .before .before .differ-at .ensures in
+    (found k (c .before .before .before .before .before .before .loop-test .taken) _ (e .0) (c .if1 .taken), e .1 ∙ k .kept)
+
+next-vector-requires : tie.Need-next-vector-requires Inv-loop μ-loop
+next-vector-requires c κs =
+    let k = c .before .before .before .before .before .before .before .loop .inv in
+    let r = k .stretch in
+    (omega (arith, r .inputs, r .files .sound₁ .inputsHigh), placed k (c .before .before .before .before .before .before .loop-test .taken))
+
+add-p : tie.Need-add-p Inv-loop μ-loop
+add-p c = omega (arith, c .before .before .before .before .before .before .before .loop-test .taken)
+
+loop-less : tie.Need-loop-less Inv-loop μ-loop
+loop-less c = omega (arith, c .before .before .before .before .before .before .before .loop-test .taken)
+
+loop-again : tie.Need-loop-again Inv-loop μ-loop
+loop-again c =
+    let called = c .before .before .before .before .differ-at in
+    more (c .before .before .before .before .before .before .before .before .loop .inv) (c .before .before .before .before .before .before .before .loop-test .taken)
+    _ (called .ensures .0) _ _ (c .before .if1 .left) (called .kept .1 .1 .1 .1 .1 .0) (called .ensures .1) (search needs) (c .next-vector .ensures)
+
+same-length-2 : tie.Need-same-length-2 Inv-loop μ-loop
+same-length-2 c = c .before .loop .inv .long
+
+returns-2 : tie.Need-returns-2 Inv-loop μ-loop
+returns-2 c = (finished (c .before .loop .inv) (c .loop-test .left), c .before .loop .inv .kept)
+
+pub by-places-spec : {M : Type 1} → statement M
+by-places-spec =
+    tie.close
+    (tie.spec
+    Inv-loop
+    μ-loop
+    vector-at-requires
+    loop-holds
+    slice-aggregate-differ-at
+    differ-at-requires
+    same-length
+    returns
+    next-vector-requires
+    add-p
+    loop-less
+    loop-again
+    same-length-2
+    returns-2)

@@ -1,0 +1,111 @@
+-- `rows::first_unequal` meets its contract. The loop's invariant: the first lane with unequal entries is the first from l on.
+-- Assumes nothing.
+use mathlib.Core.Bool.{true, false}
+use mathlib.Core.List.{List}
+use mathlib.Core.Path.{_≡_, sym, _∙_}
+use Prim.Native.Nat.{ℕ, _-_, _%_, _^_, _≤_}
+use native.Mathlib.Omega.{arith}
+use borrow.Author.Needs.{needs}
+use borrow.Author.Tests.{eq-eqb, ne-eqb}
+use Rattle.search.specs.Search.{first}
+use Rattle.search.proofs.Search.{first-start, first-step, first-here, first-end}
+use Rattle.rows.specs.Rows.{lane, unequal}
+use Rattle.rows.proofs.first_unequal.Statement.{statement}
+use Rattle.rows.proofs.first_unequal.Tie as tie
+
+-- x and y are the lanes' lowest m bits
+module _
+    (m : ℕ) (v : List ℕ) (a : ℕ) (w : List ℕ) (b l x y : ℕ) (left : x ≡ lane v a l % 2 ^ m) (right : y ≡ lane w b l % 2 ^ m)
+  where
+    lanes-differ : ¬ (x ≡ y) → unequal m v a w b l ≡ true
+    unfolding unequal
+    lanes-differ d = rw (← left, ← right, ne-eqb x y d)
+
+    lanes-agree : x ≡ y → unequal m v a w b l ≡ false
+    unfolding unequal
+    lanes-agree e = rw (← left, ← right, eq-eqb x y e)
+
+abbrev Inv-loop : tie.InvT-loop
+Inv-loop rows1 a rows2 b m live l₀ l = (l ≤ live) × (first (unequal m rows1 a rows2 b) 0 live ≡ first (unequal m rows1 a rows2 b) l (live - l))
+
+abbrev μ-loop : tie.MeasureT-loop
+μ-loop rows1 a rows2 b m live l₀ l = live - l
+
+loop-holds : tie.Need-loop-holds Inv-loop μ-loop
+loop-holds c = (omega arith, first-start _ _)
+
+mul-cut : tie.Need-mul-cut Inv-loop μ-loop
+mul-cut c = search needs
+
+add-cut : tie.Need-add-cut Inv-loop μ-loop
+add-cut c = search needs
+
+mul-cut-2 : tie.Need-mul-cut-2 Inv-loop μ-loop
+mul-cut-2 c = search needs
+
+shared-slice-read-cut : tie.Need-shared-slice-read-cut Inv-loop μ-loop
+shared-slice-read-cut c = search needs
+
+cut-requires : tie.Need-cut-requires Inv-loop μ-loop
+cut-requires c κs = search needs
+
+mul-cut-3 : tie.Need-mul-cut-3 Inv-loop μ-loop
+mul-cut-3 c = search needs
+
+add-cut-2 : tie.Need-add-cut-2 Inv-loop μ-loop
+add-cut-2 c = search needs
+
+mul-cut-4 : tie.Need-mul-cut-4 Inv-loop μ-loop
+mul-cut-4 c = search needs
+
+shared-slice-read-cut-2 : tie.Need-shared-slice-read-cut-2 Inv-loop μ-loop
+shared-slice-read-cut-2 c = search needs
+
+cut-requires-2 : tie.Need-cut-requires-2 Inv-loop μ-loop
+cut-requires-2 c κs = search needs
+
+returns : tie.Need-returns Inv-loop μ-loop
+returns c =
+    sym
+    (c .before .before .before .before .before .before .loop .inv .1
+    ∙ first-here _ _ _ (lanes-differ _ _ _ _ _ _ _ _ (c .before .before .before .cut .ensures) (c .before .cut2 .ensures) (c .if1 .taken)))
+
+add-l : tie.Need-add-l Inv-loop μ-loop
+add-l c = search needs
+
+loop-less : tie.Need-loop-less Inv-loop μ-loop
+loop-less c = search needs
+
+loop-again : tie.Need-loop-again Inv-loop μ-loop
+loop-again c = (
+  omega arith,
+  c .before .before .before .before .before .before .loop .inv .1
+      ∙ first-step _ _ _ (c .before .before .before .before .before .loop-test .taken)
+      (lanes-agree _ _ _ _ _ _ _ _ (c .before .before .before .cut .ensures) (c .before .cut2 .ensures) (c .if1 .left)),
+)
+
+returns-2 : tie.Need-returns-2 Inv-loop μ-loop
+returns-2 c = sym (c .before .loop .inv .1 ∙ first-end _ _ _ (c .loop-test .left))
+
+pub first-unequal-spec : {M : Type 1} → statement M
+first-unequal-spec =
+    tie.close
+    (tie.spec
+    Inv-loop
+    μ-loop
+    loop-holds
+    mul-cut
+    add-cut
+    mul-cut-2
+    shared-slice-read-cut
+    cut-requires
+    mul-cut-3
+    add-cut-2
+    mul-cut-4
+    shared-slice-read-cut-2
+    cut-requires-2
+    returns
+    add-l
+    loop-less
+    loop-again
+    returns-2)

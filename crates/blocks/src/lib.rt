@@ -7,7 +7,7 @@ use lanes::run_all;
 use lanes::run_listed;
 use rows::fill_row;
 use rows::first_unequal;
-ghost use mathlib.Core.Bool.{true, false};
+ghost use mathlib.Core.Bool.{false};
 ghost use mathlib.Core.List.{List};
 ghost use mathlib.Core.Path.{_≡_};
 ghost use Prim.Native.Nat.{ℕ, _+_, _*_, _-_, _≤_, _<_, max};
@@ -41,8 +41,9 @@ fn refresh(
     run_listed(file, n, inputs, rows, list, count);
 }
 
-// Whether the outputs agree in all lanes at every value of the last input, j, below u. The input rows before it hold a vector in each lane.
-fn block_agrees(
+// How many of the first lanes agree in the outputs at every value of the last input below its axis. The input rows before the last hold the other
+// inputs of each lane.
+fn agreeing_lanes(
     file1: &[u8],
     n1: usize,
     rows1: &mut [u64],
@@ -56,30 +57,29 @@ fn block_agrees(
     axes: [u64; 8],
     d: usize,
     inputs: &mut [u64],
-) -> bool
+) -> usize
     requires { ⌜ Prepared (now file1) (now file2) n1 n2 d axes (now rows1) (now rows2) ⌝ }
     requires { ⌜ Listed n1 (now list1) count1 × Listed n2 (now list2) count2 ⌝ }
     requires { ⌜ Rest (now file1) (d - 1) n1 (now list1) count1 × Rest (now file2) (d - 1) n2 (now list2) count2 ⌝ }
     requires { ⌜ laneCount * d ≤ length (now inputs) ⌝ }
-    ensures { λ r. ⌜ (r ≡ true → (l : ℕ) (x : List ℕ) → l < laneCount → ((i : ℕ) → i < d - 1 → lane (now (inputs .entry)) i l ≡ getD x i 0) → getD x (d - 1) 0 < getD axes (d - 1) 0 → outputOf (now (file1 .entry)) x ≡ outputOf (now (file2 .entry)) x) ⌝ }
+    ensures { λ r. ⌜ (r ≤ laneCount) × ((l : ℕ) (x : List ℕ) → l < r → ((i : ℕ) → i < d - 1 → lane (now (inputs .entry)) i l ≡ getD x i 0) → getD x (d - 1) 0 < getD axes (d - 1) 0 → outputOf (now (file1 .entry)) x ≡ outputOf (now (file2 .entry)) x) ⌝ }
 {
     let u = axes[d - 1];
     let m = file1[0] as u64;
+    let mut agreeing = 16;
     let mut t = 0;
     while t < u {
         fill_row(inputs, d - 1, t);
         refresh(file1, n1, inputs, rows1, list1, count1, t);
         refresh(file2, n2, inputs, rows2, list2, count2, t);
-        if first_unequal(rows1, n1 - 1, rows2, n2 - 1, m, 16) < 16 {
-            return false;
-        }
+        agreeing = first_unequal(rows1, n1 - 1, rows2, n2 - 1, m, agreeing);
         t += 1;
     }
-    true
+    agreeing
 }
 
-// The first row of the grid, of those from `from` to before `stop` in blocks of 16, in whose block the outputs may differ: before it they agree
-// everywhere. The first entries of the flags, one for each step, are overwritten.
+// A row of the grid from `from` to `stop` before which, from `from` on, the outputs agree everywhere: the first with a difference, or one with fewer
+// than 16 rows up to `stop`. The first entries of the flags, one for each step, are overwritten.
 fn agreed_rows(
     file1: &[u8],
     n1: usize,
@@ -106,7 +106,7 @@ fn agreed_rows(
     let mut r = from;
     while 16 <= stop - r {
         set_lanes(&mut inputs, axes, d - 1, r, 16);
-        if !block_agrees(
+        let l = agreeing_lanes(
             file1,
             n1,
             rows1,
@@ -120,8 +120,9 @@ fn agreed_rows(
             axes,
             d,
             &mut inputs,
-        ) {
-            return r;
+        );
+        if l < 16 {
+            return r + l as u64;
         }
         r += 16;
     }
@@ -129,7 +130,7 @@ fn agreed_rows(
 }
 
 // The first place from `from` to before `end` at which the outputs differ, or `end` where there is none. Whole rows of the grid go in blocks;
-// what stands before and after them, and a block with a difference, in batches.
+// what stands before and after them, and a row with a difference, in batches.
 pub fn by_blocks(
     file1: &[u8],
     n1: usize,

@@ -102,6 +102,43 @@ fn in_short_lanes(
     )
 }
 
+// The same in lanes, for files of at most 256 steps.
+fn in_middle_lanes(
+    file1: &[u8],
+    n1: usize,
+    file2: &[u8],
+    n2: usize,
+    axes: [u64; 8],
+    d: usize,
+    from: u64,
+    end: u64,
+    scratch: &mut [u64],
+) -> u64
+    requires { ⌜ Stretch (now file1) (now file2) n1 n2 d axes from end (now scratch) ⌝ }
+    requires { ⌜ (n1 ≤ 256) × (n2 ≤ 256) ⌝ }
+    ensures { λ r. ⌜ (r ≡ first (outputsDiffer (now (file1 .entry)) (now (file2 .entry))) from (end - from)) × (drop (max n1 n2) (now (scratch .exit)) ≡ drop (max n1 n2) (now (scratch .entry))) ⌝ }
+{
+    let mut rows1 = [0u64; 4096];
+    let mut rows2 = [0u64; 4096];
+    let mut list1 = [0usize; 256];
+    let mut list2 = [0usize; 256];
+    by_blocks(
+        file1,
+        n1,
+        &mut rows1,
+        &mut list1,
+        file2,
+        n2,
+        &mut rows2,
+        &mut list2,
+        axes,
+        d,
+        from,
+        end,
+        scratch,
+    )
+}
+
 // The same in lanes, for files of any accepted length.
 fn in_long_lanes(
     file1: &[u8],
@@ -167,6 +204,11 @@ pub fn first_difference(
     if n1 <= 64 {
         if n2 <= 64 {
             return in_short_lanes(file1, n1, file2, n2, axes, d, from, end, scratch);
+        }
+    }
+    if n1 <= 256 {
+        if n2 <= 256 {
+            return in_middle_lanes(file1, n1, file2, n2, axes, d, from, end, scratch);
         }
     }
     in_long_lanes(file1, n1, file2, n2, axes, d, from, end, scratch)

@@ -8,7 +8,7 @@ use native.Mathlib.Decide.{decLt}
 use native.Mathlib.Nat.{div-lt-iff-lt-mul, le-div-iff-mul-le, le-of-mul-le-mul-right, le-trans, le-max-left, le-max-right, mul-le-mul-right}
 use native.Mathlib.Omega.{arith}
 use borrow.Author.Needs.{needs}
-use borrow.Author.Tests.{eq-eqb, not-false}
+use borrow.Author.Tests.{eq-eqb}
 use denote.Ref.{now}
 use lib.ListN.{length, getD, take, drop}
 use Rattle.batches.specs.Comparison.{outputsDiffer}
@@ -64,25 +64,31 @@ module _
 
       module _
           (inputs' : List ℕ) (filled : (i l : ℕ) → i < d - 1 → l < laneCount → lane inputs' i l ≡ getD (vectorAt (take (d - 1) axes) (r + l)) i 0)
-          (agrees : (l : ℕ) (x : List ℕ) → l < laneCount → Front d inputs' l x → getD x (d - 1) 0 < u → outputOf s₁ x ≡ outputOf s₂ x)
+          (a : ℕ) (few : a ≤ laneCount)
+          (agrees : (l : ℕ) (x : List ℕ) → l < a → Front d inputs' l x → getD x (d - 1) 0 < u → outputOf s₁ x ≡ outputOf s₂ x)
         where
           -- a place of the block is in the row of lane p / u - r
-          place : (p : ℕ) → r * u ≤ p → p < (r + laneCount) * u → outputsDiffer s₁ s₂ p ≡ false
+          place : (p : ℕ) → r * u ≤ p → p < (r + a) * u → outputsDiffer s₁ s₂ p ≡ false
           place p low high =
-              let h : p < size (take d axes) = omega (arith, block) in
+              let part : r + a ≤ r + laneCount = omega arith in
+              let h : p < size (take d axes) = omega (arith, block, mul-le-mul-right u part) in
               let above : r ≤ p / u = le-div-iff-mul-le last-pos .1 low in
-              let below : p / u < r + laneCount = div-lt-iff-lt-mul last-pos .1 high in
-              let l : p / u - r < laneCount = omega arith in
+              let below : p / u < r + a = div-lt-iff-lt-mul last-pos .1 high in
+              let l : p / u - r < a = omega arith in
               let e : r + (p / u - r) ≡ p / u = omega arith in
               let front : Front d inputs' (p / u - r) (vectorAt (take d axes) p) =
-              λ i g. filled i (p / u - r) g l ∙ ap (λ q. getD (vectorAt (take (d - 1) axes) q) i 0) e ∙ sym (row-front axes d some (k .enough) p h i g) in
+              λ i g. filled i (p / u - r) g (omega arith) ∙ ap (λ q. getD (vectorAt (take (d - 1) axes) q) i 0) e ∙ sym (row-front axes d some (k .enough) p h i g) in
               let same = agrees (p / u - r) (vectorAt (take d axes) p) l front (row-last axes d some (k .enough) p h) in
               sym (output-test s₁ s₂ p (k .prepared .files .same)) ∙ ap not (eq-eqb _ _ (rw (k .prepared .grid) at same))
 
+          passed : (p : ℕ) → from * u ≤ p → p < (r + a) * u → outputsDiffer s₁ s₂ p ≡ false
+          passed p low high = elim (decLt p (r * u)) [ yes h ↦ k .agree p low h | no h ↦ place p (omega arith) high ]
+
           more :
               (rows₁' rows₂' inputs'' : List ℕ) → length rows₁' ≡ length rows₁ → length rows₂' ≡ length rows₂ → length inputs'' ≡ 128 →
-              Passed s₁ s₂ n₁ n₂ d axes from stop rows₁₀ rows₂₀ rows₁' rows₂' inputs'' (r + laneCount)
-          more rows₁' rows₂' inputs'' e₁ e₂ e₃ =
+              laneCount ≤ a → Passed s₁ s₂ n₁ n₂ d axes from stop rows₁₀ rows₂₀ rows₁' rows₂' inputs'' (r + laneCount)
+          more rows₁' rows₂' inputs'' e₁ e₂ e₃ all =
+              let e : a ≡ laneCount = omega arith in
               record {
                 prepared = prepared-kept (k .prepared) rows₁' rows₂' e₁ e₂;
                 long₁ = e₁ ∙ k .long₁;
@@ -92,7 +98,7 @@ module _
                 inside = k .inside;
                 low = omega (arith, k .low);
                 high = omega (arith, k .high);
-                agree = λ p low high. elim (decLt p (r * u)) [ yes h ↦ k .agree p low h | no h ↦ place p (omega arith) high ];
+                agree = λ p low high. passed p low (rw e high);
               }
 
 abbrev Inv-loop : tie.InvT-loop
@@ -115,7 +121,7 @@ second c = c .before .before .before .before .before
 abbrev head : tie.After-set-lanes Inv-loop μ-loop → tie.At-loop Inv-loop μ-loop
 head c = c .before .before .before
 
-abbrev lanes : tie.After-block-agrees Inv-loop μ-loop → tie.After-set-lanes Inv-loop μ-loop
+abbrev lanes : tie.After-agreeing-lanes Inv-loop μ-loop → tie.After-set-lanes Inv-loop μ-loop
 lanes c = c .before .before .before .before .before .before .before
 
 -- the flags past those of the steps are as at entry
@@ -189,13 +195,13 @@ set-lanes-requires c κs =
     let few = k .prepared .files .sound₁ .inputsHigh in
     (omega (arith, e, few), omega (arith, e, few, k .lanes), omega arith, omega arith, rows-left k (c .before .loop-test .taken))
 
-slice-aggregate-block-agrees : tie.Need-slice-aggregate-block-agrees Inv-loop μ-loop
-slice-aggregate-block-agrees c =
+slice-aggregate-agreeing-lanes : tie.Need-slice-aggregate-agreeing-lanes Inv-loop μ-loop
+slice-aggregate-agreeing-lanes c =
     let s = c .before .before .before .before .before .before in
     sym (s .set-lanes .kept .0 ∙ head s .loop .inv .lanes)
 
-block-agrees-requires : tie.Need-block-agrees-requires Inv-loop μ-loop
-block-agrees-requires c κs =
+agreeing-lanes-requires : tie.Need-agreeing-lanes-requires Inv-loop μ-loop
+agreeing-lanes-requires c κs =
     let s = c .before .before .before .before .before .before in
     let h = head s in
     let k = h .loop .inv in
@@ -204,10 +210,15 @@ block-agrees-requires c κs =
     let few = k .prepared .files .sound₁ .inputsHigh in
     (k .prepared, ((l₁ .0, l₂ .0), ((l₁ .1, l₂ .1), omega (arith, s .set-lanes .kept .0, k .lanes, k .prepared .inputs, few))))
 
+add-result : tie.Need-add-result Inv-loop μ-loop
+add-result c =
+    let s = lanes (c .before .before .before .before .before .before) in
+    omega (arith, s .before .before .loop-test .taken, c .if1 .taken, entry (first (second (head s))) .fits .stop .fits)
+
 same-length : tie.Need-same-length Inv-loop μ-loop
 same-length c =
     let b = c .before .before .before .before .before .before in
-    b .block-agrees .kept .1 .1 .0 ∙ head (lanes b) .loop .inv .long₁
+    b .agreeing-lanes .kept .1 .1 .0 ∙ head (lanes b) .loop .inv .long₁
 
 same-length-2 : tie.Need-same-length-2 Inv-loop μ-loop
 same-length-2 c = first (second (head (lanes (c .before .before .before .before .before .before)))) .list-dependent .kept .1 .1 .1 .1 .0
@@ -215,7 +226,7 @@ same-length-2 c = first (second (head (lanes (c .before .before .before .before 
 same-length-3 : tie.Need-same-length-3 Inv-loop μ-loop
 same-length-3 c =
     let b = c .before .before .before .before .before .before in
-    b .block-agrees .kept .1 .1 .1 .1 .1 .1 .1 .0 ∙ head (lanes b) .loop .inv .long₂
+    b .agreeing-lanes .kept .1 .1 .1 .1 .1 .1 .1 .0 ∙ head (lanes b) .loop .inv .long₂
 
 same-length-4 : tie.Need-same-length-4 Inv-loop μ-loop
 same-length-4 c = second (head (lanes (c .before .before .before .before .before .before))) .list-dependent2 .kept .1 .1 .1 .1 .0
@@ -227,9 +238,15 @@ same-length-5 c =
 
 returns : tie.Need-returns Inv-loop μ-loop
 returns c =
-    let h = head (lanes (c .before .before .before .before .before .before)) in
-    let k = h .loop .inv in
-    (k .low, k .high, k .agree, flags-kept (second h))
+    let block = c .before .before .before .before .before .before .agreeing-lanes in
+    let s = lanes (c .before .before .before .before .before .before) in
+    let t = s .before .before .loop-test .taken in
+    let k = head s .loop .inv in (
+      omega (arith, k .low),
+      omega (arith, k .high, t, c .if1 .taken),
+      passed k t (s .set-lanes .last .0) (s .set-lanes .ensures) _ (block .ensures .0) (block .ensures .1),
+      flags-kept (second (head s)),
+    )
 
 add-r : tie.Need-add-r Inv-loop μ-loop
 add-r c =
@@ -244,9 +261,9 @@ loop-again c =
     let s = lanes (c .before .before .before .before .before .before) in
     let k = head s .loop .inv in
     let set = s .set-lanes in
-    let block = c .before .before .before .before .before .before .block-agrees in
-    more k (s .before .before .loop-test .taken) (set .last .0) (set .ensures) (block .ensures (not-false _ (c .if1 .left))) _ _ _ (block .kept .1 .1 .0)
-    (block .kept .1 .1 .1 .1 .1 .1 .1 .0) (block .kept .1 .1 .1 .1 .1 .1 .1 .1 .1 .1 .1 .1 .0 ∙ set .kept .0 ∙ k .lanes)
+    let block = c .before .before .before .before .before .before .agreeing-lanes in
+    more k (s .before .before .loop-test .taken) (set .last .0) (set .ensures) _ (block .ensures .0) (block .ensures .1) _ _ _ (block .kept .1 .1 .0)
+    (block .kept .1 .1 .1 .1 .1 .1 .1 .0) (block .kept .1 .1 .1 .1 .1 .1 .1 .1 .1 .1 .1 .1 .0 ∙ set .kept .0 ∙ k .lanes) (c .if1 .left)
 
 same-length-6 : tie.Need-same-length-6 Inv-loop μ-loop
 same-length-6 c = c .before .loop .inv .long₁
@@ -285,8 +302,9 @@ agreed-rows-spec =
     slice-aggregate-set-lanes
     sub-set-lanes
     set-lanes-requires
-    slice-aggregate-block-agrees
-    block-agrees-requires
+    slice-aggregate-agreeing-lanes
+    agreeing-lanes-requires
+    add-result
     same-length
     same-length-2
     same-length-3

@@ -80,15 +80,24 @@ returns-3 : tie.Need-returns-3
 returns-3 c =
     answered (read (c .before .before .before .before .before .before .before)) _ _ _ refl (c .before .before .in-short-lanes .ensures)
 
-in-long-lanes-requires : tie.Need-in-long-lanes-requires
-in-long-lanes-requires c κs = read (c .before .before .before)
+in-middle-lanes-requires : tie.Need-in-middle-lanes-requires
+in-middle-lanes-requires c κs = (read (c .before .before .before .before .before), search needs)
 
 same-length-3 : tie.Need-same-length-3
 same-length-3 c = search needs
 
 returns-4 : tie.Need-returns-4
-returns-4 c =
-    answered (read (c .before .before .before .before .before .before)) _ _ _ refl (c .before .before .in-long-lanes .ensures)
+returns-4 c = answered (read (c .before .before .before .before .before .before .before .before)) _ _ _ refl (c .before .before .in-middle-lanes .ensures)
+
+in-long-lanes-requires : tie.Need-in-long-lanes-requires
+in-long-lanes-requires c κs = read (c .before .before .before .before)
+
+same-length-4 : tie.Need-same-length-4
+same-length-4 c = search needs
+
+returns-5 : tie.Need-returns-5
+returns-5 c =
+    answered (read (c .before .before .before .before .before .before .before)) _ _ _ refl (c .before .before .in-long-lanes .ensures)
 
 pub first-difference-spec : {M : Type 1} → statement M
 first-difference-spec =
@@ -107,6 +116,9 @@ first-difference-spec =
     in-short-lanes-requires
     same-length-2
     returns-3
-    in-long-lanes-requires
+    in-middle-lanes-requires
     same-length-3
-    returns-4)
+    returns-4
+    in-long-lanes-requires
+    same-length-4
+    returns-5)

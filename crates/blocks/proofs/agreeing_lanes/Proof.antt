@@ -1,7 +1,6 @@
--- `blocks::block_agrees` meets its contract. The loop's invariant is `Agreed`: the outputs agree at every value of the last input below t, and the
--- rows hold the values at t - 1.
+-- `blocks::agreeing_lanes` meets its contract. The loop's invariant is `Agreed`: in the agreeing lanes the outputs agree at every value of the last
+-- input below t, and the rows hold the values at t - 1.
 -- Assumes nothing.
-use mathlib.Core.Bool.{false≢true}
 use mathlib.Core.Path.{refl, _∙_}
 use Prim.Native.Nat.{_-_}
 use native.Mathlib.Omega.{arith}
@@ -13,15 +12,15 @@ use mir.Val.{Fits}
 use Rattle.batches.proofs.Tests.{room₁, room₂, prepared-kept}
 use Rattle.file.specs.File.{sizesOf}
 use Rattle.blocks.proofs.Along.{Agreed, none, more}
-use Rattle.blocks.proofs.block_agrees.Statement.{statement}
-use Rattle.blocks.proofs.block_agrees.Tie as tie
+use Rattle.blocks.proofs.agreeing_lanes.Statement.{statement}
+use Rattle.blocks.proofs.agreeing_lanes.Tie as tie
 
 abbrev Inv-loop : tie.InvT-loop
-Inv-loop file1 n1 rows1₀ list1 count1 file2 n2 rows2₀ list2 count2 d inputs₀ u m t₀ rows1 rows2 inputs t =
-    Agreed file1 file2 n1 n2 d inputs₀ rows1₀ rows2₀ rows1 rows2 inputs t
+Inv-loop file1 n1 rows1₀ list1 count1 file2 n2 rows2₀ list2 count2 d inputs₀ u m agreeing₀ t₀ rows1 rows2 inputs agreeing t =
+    Agreed file1 file2 n1 n2 d inputs₀ rows1₀ rows2₀ rows1 rows2 inputs agreeing t
 
 abbrev μ-loop : tie.MeasureT-loop
-μ-loop file1 n1 rows1₀ list1 count1 file2 n2 rows2₀ list2 count2 d inputs₀ u m t₀ rows1 rows2 inputs t = u - t
+μ-loop file1 n1 rows1₀ list1 count1 file2 n2 rows2₀ list2 count2 d inputs₀ u m agreeing₀ t₀ rows1 rows2 inputs agreeing t = u - t
 
 -- the places: the entry, the loop's head, and the calls of a round
 abbrev entry : tie.At-loop Inv-loop μ-loop → tie.Start Inv-loop μ-loop
@@ -108,64 +107,48 @@ first-unequal-requires c κs =
     let inv = h .loop .inv in (
       omega (arith, k .count₁, k .files .sound₁ .countLow, k .room₁, inv .long₁, run₁ .refresh .kept .1 .1 .1 .0),
       omega (arith, k .count₂, k .files .sound₂ .countLow, k .room₂, inv .long₂, run₂ .refresh2 .kept .1 .1 .1 .0),
-      omega arith,
+      inv .few,
     )
-
-same-length : tie.Need-same-length Inv-loop μ-loop
-same-length c =
-    let r = first (c .before .before .before .before .before .before) in
-    r .refresh .kept .1 .1 .1 .0 ∙ head (filled r) .loop .inv .long₁
-
-same-length-2 : tie.Need-same-length-2 Inv-loop μ-loop
-same-length-2 c =
-    let r = c .before .before .before .before .before .before in
-    r .refresh2 .kept .1 .1 .1 .0 ∙ head (filled (first r)) .loop .inv .long₂
-
-same-length-3 : tie.Need-same-length-3 Inv-loop μ-loop
-same-length-3 c =
-    let f = filled (first (c .before .before .before .before .before .before)) in
-    f .fill-row .kept .0 ∙ head f .loop .inv .long
-
-returns : tie.Need-returns Inv-loop μ-loop
-returns c = λ yes. absurd (false≢true yes)
 
 add-t : tie.Need-add-t Inv-loop μ-loop
 add-t c =
-    let f = filled (first (c .before .before .before .before .before .before)) in
+    let f = filled (first (c .before .before .before .before .before)) in
     omega (arith, axis-fits (entry (head f)) .fits, f .before .before .loop-test .taken)
 
 loop-less : tie.Need-loop-less Inv-loop μ-loop
-loop-less c = omega (arith, filled (first (c .before .before .before .before .before .before)) .before .before .loop-test .taken)
+loop-less c = omega (arith, filled (first (c .before .before .before .before .before)) .before .before .loop-test .taken)
 
 loop-again : tie.Need-loop-again Inv-loop μ-loop
 unfolding sizesOf
 loop-again c =
-    let f = filled (first (c .before .before .before .before .before .before)) in
+    let f = filled (first (c .before .before .before .before .before)) in
     let e = entry (head f) in
     let q = e .pre in
     let inv = head f .loop .inv in
-    let run₁ = first (c .before .before .before .before .before .before) .refresh in
-    let run₂ = c .before .before .before .before .before .before .refresh2 in
+    let run₁ = first (c .before .before .before .before .before) .refresh in
+    let run₂ = c .before .before .before .before .before .refresh2 in
     let long₁ = run₁ .kept .1 .1 .1 .0 in
     let long₂ = run₂ .kept .1 .1 .1 .0 in
-    more _ _ _ _ _ _ _ _ _ _ _ _ _ _ _ _
+    more _ _ _ _ _ _ _ _ _ _ _ _ _ _ _ _ _
     (prepared-kept (q .0) _ _ (long₁ ∙ inv .long₁) (long₂ ∙ inv .long₂)) inv (f .fill-row .ensures) (now (e .args .list1)) (now (e .args .list2)) _ _ _ _
-    (f .fill-row .kept .0) long₁ long₂ (q .1 .1 .0 .0) (q .1 .1 .0 .1) (run₁ .ensures) (run₂ .ensures) refl (c .before .first-unequal .ensures) (c .if1 .left)
+    (f .fill-row .kept .0) long₁ long₂ (q .1 .1 .0 .0) (q .1 .1 .0 .1) (run₁ .ensures) (run₂ .ensures) refl (c .first-unequal .ensures)
 
-same-length-4 : tie.Need-same-length-4 Inv-loop μ-loop
-same-length-4 c = c .before .loop .inv .long₁
+same-length : tie.Need-same-length Inv-loop μ-loop
+same-length c = c .before .loop .inv .long₁
 
-same-length-5 : tie.Need-same-length-5 Inv-loop μ-loop
-same-length-5 c = c .before .loop .inv .long₂
+same-length-2 : tie.Need-same-length-2 Inv-loop μ-loop
+same-length-2 c = c .before .loop .inv .long₂
 
-same-length-6 : tie.Need-same-length-6 Inv-loop μ-loop
-same-length-6 c = c .before .loop .inv .long
+same-length-3 : tie.Need-same-length-3 Inv-loop μ-loop
+same-length-3 c = c .before .loop .inv .long
 
-returns-2 : tie.Need-returns-2 Inv-loop μ-loop
-returns-2 c = λ yes l x h f less. c .before .loop .inv .agree l x h f (omega (arith, c .loop-test .left))
+returns : tie.Need-returns Inv-loop μ-loop
+returns c =
+    let k = c .before .loop .inv in
+    (k .few, λ l x h f less. k .agree l x h f (omega (arith, c .loop-test .left)))
 
-pub block-agrees-spec : {M : Type 1} → statement M
-block-agrees-spec =
+pub agreeing-lanes-spec : {M : Type 1} → statement M
+agreeing-lanes-spec =
     tie.close
     (tie.spec
     Inv-loop
@@ -183,14 +166,10 @@ block-agrees-spec =
     sub-first-unequal
     sub-first-unequal-2
     first-unequal-requires
-    same-length
-    same-length-2
-    same-length-3
-    returns
     add-t
     loop-less
     loop-again
-    same-length-4
-    same-length-5
-    same-length-6
-    returns-2)
+    same-length
+    same-length-2
+    same-length-3
+    returns)

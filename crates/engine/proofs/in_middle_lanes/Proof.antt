@@ -1,0 +1,43 @@
+-- `engine::in_middle_lanes` meets its contract: the rows that it sets up have room for the files' steps.
+-- Assumes nothing.
+use native.Mathlib.Omega.{arith}
+use borrow.Author.Needs.{needs}
+use Rattle.engine.proofs.Prepared.{in-lanes}
+use Rattle.engine.proofs.in_middle_lanes.Statement.{statement}
+use Rattle.engine.proofs.in_middle_lanes.Tie as tie
+
+slice-aggregate-by-blocks : tie.Need-slice-aggregate-by-blocks
+slice-aggregate-by-blocks c = search needs
+
+slice-aggregate-by-blocks-2 : tie.Need-slice-aggregate-by-blocks-2
+slice-aggregate-by-blocks-2 c = search needs
+
+slice-aggregate-by-blocks-3 : tie.Need-slice-aggregate-by-blocks-3
+slice-aggregate-by-blocks-3 c = search needs
+
+slice-aggregate-by-blocks-4 : tie.Need-slice-aggregate-by-blocks-4
+slice-aggregate-by-blocks-4 c = search needs
+
+by-blocks-requires : tie.Need-by-blocks-requires
+by-blocks-requires c κs =
+    let q = c .before .before .before .before .before .before .before .before .pre in
+    let k = q .0 in
+    (in-lanes k 256 _ _ (q .1 .0) (q .1 .1) (omega arith) (omega arith), ((q .1 .0, q .1 .1, k .room), (k .some, k .inside)))
+
+same-length : tie.Need-same-length
+same-length c = search needs
+
+returns : tie.Need-returns
+returns c = search needs
+
+pub in-middle-lanes-spec : {M : Type 1} → statement M
+in-middle-lanes-spec =
+    tie.close
+    (tie.spec
+    slice-aggregate-by-blocks
+    slice-aggregate-by-blocks-2
+    slice-aggregate-by-blocks-3
+    slice-aggregate-by-blocks-4
+    by-blocks-requires
+    same-length
+    returns)

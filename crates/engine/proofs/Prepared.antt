@@ -18,7 +18,7 @@ use Rattle.places.specs.Places.{size}
 use Rattle.rows.specs.Rows.{laneCount}
 use Rattle.sizes.specs.declared.Sizes.{Sizes}
 use Rattle.engine.specs.Engine.{largerCount, Comparable}
-use Rattle.engine.specs.Stretch.{Stretch}
+use Rattle.engine.specs.Span.{Span}
 
 pub grid-fits : (s : List ℕ) → Accepted s → gridSize (sizesOf s) < 2 ^ 64
 unfolding tooLarge
@@ -36,11 +36,11 @@ module _ (s₁ s₂ : List ℕ) (z : Sizes) (g : Grid) (files : Comparable s₁ 
   pub axes-read : take (z .d) (g .axes) ≡ axesOf (sizesOf s₁)
   axes-read = rw (q, e) (axes-front s₁ (files .sound₁))
 
-  pub stretch :
+  pub span :
       (n₁ n₂ from end : ℕ) (scratch : List ℕ) → n₁ ≡ stepCount s₁ → n₂ ≡ stepCount s₂ → from < end → end ≤ gridSize (sizesOf s₁) →
-      largerCount s₁ s₂ ≤ length scratch → Stretch s₁ s₂ n₁ n₂ (z .d) (g .axes) from end scratch
+      largerCount s₁ s₂ ≤ length scratch → Span s₁ s₂ n₁ n₂ (z .d) (g .axes) from end scratch
   unfolding gridSize
-  stretch n₁ n₂ from end scratch c₁ c₂ l h r =
+  span n₁ n₂ from end scratch c₁ c₂ l h r =
       record {
         files = files;
         count₁ = c₁;
@@ -54,7 +54,7 @@ module _ (s₁ s₂ : List ℕ) (z : Sizes) (g : Grid) (files : Comparable s₁ 
 
 -- rows for `cap` steps are rows for the files' steps
 pub in-lanes :
-    {s₁ s₂ : List ℕ} {n₁ n₂ d : ℕ} {axes : List ℕ} {from end : ℕ} {scratch : List ℕ} → Stretch s₁ s₂ n₁ n₂ d axes from end scratch →
+    {s₁ s₂ : List ℕ} {n₁ n₂ d : ℕ} {axes : List ℕ} {from end : ℕ} {scratch : List ℕ} → Span s₁ s₂ n₁ n₂ d axes from end scratch →
     (cap : ℕ) (rows₁ rows₂ : List ℕ) → n₁ ≤ cap → n₂ ≤ cap → laneCount * cap ≤ length rows₁ → laneCount * cap ≤ length rows₂ →
     Prepared s₁ s₂ n₁ n₂ d axes rows₁ rows₂
 in-lanes k cap rows₁ rows₂ h₁ h₂ l₁ l₂ =

@@ -1,2 +1,2 @@
 pub mod Engine
-pub mod Stretch
+pub mod Span

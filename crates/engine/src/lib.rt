@@ -1,4 +1,4 @@
-// The engine: two files compared place by place over the grid.
+// The engine: two files compared over the places of the grid.
 use blocks::by_blocks;
 use evaluate::output_at;
 use file::fields::read_sizes;
@@ -17,7 +17,7 @@ ghost use Rattle.file.specs.File.{sizesOf};
 ghost use Rattle.grid.specs.Grid.{gridSize};
 ghost use Rattle.search.specs.Search.{first};
 ghost use Rattle.engine.specs.Engine.{outputsDiffer, largerCount, Comparable};
-ghost use Rattle.engine.specs.Stretch.{Stretch};
+ghost use Rattle.engine.specs.Span.{Span};
 
 // Whether the outputs of two accepted files, of n1 and n2 steps, differ at a vector. Past the larger of these no scratch entry is touched.
 fn differ_at(
@@ -50,7 +50,7 @@ fn by_places(
     end: u64,
     scratch: &mut [u64],
 ) -> u64
-    requires { ⌜ Stretch (now file1) (now file2) n1 n2 d axes from end (now scratch) ⌝ }
+    requires { ⌜ Span (now file1) (now file2) n1 n2 d axes from end (now scratch) ⌝ }
     ensures { λ r. ⌜ (r ≡ first (outputsDiffer (now (file1 .entry)) (now (file2 .entry))) from (end - from)) × (drop (max n1 n2) (now (scratch .exit)) ≡ drop (max n1 n2) (now (scratch .entry))) ⌝ }
 {
     let mut v = vector_at(axes, d, from);
@@ -77,7 +77,7 @@ fn in_short_lanes(
     end: u64,
     scratch: &mut [u64],
 ) -> u64
-    requires { ⌜ Stretch (now file1) (now file2) n1 n2 d axes from end (now scratch) ⌝ }
+    requires { ⌜ Span (now file1) (now file2) n1 n2 d axes from end (now scratch) ⌝ }
     requires { ⌜ (n1 ≤ 64) × (n2 ≤ 64) ⌝ }
     ensures { λ r. ⌜ (r ≡ first (outputsDiffer (now (file1 .entry)) (now (file2 .entry))) from (end - from)) × (drop (max n1 n2) (now (scratch .exit)) ≡ drop (max n1 n2) (now (scratch .entry))) ⌝ }
 {
@@ -114,7 +114,7 @@ fn in_middle_lanes(
     end: u64,
     scratch: &mut [u64],
 ) -> u64
-    requires { ⌜ Stretch (now file1) (now file2) n1 n2 d axes from end (now scratch) ⌝ }
+    requires { ⌜ Span (now file1) (now file2) n1 n2 d axes from end (now scratch) ⌝ }
     requires { ⌜ (n1 ≤ 256) × (n2 ≤ 256) ⌝ }
     ensures { λ r. ⌜ (r ≡ first (outputsDiffer (now (file1 .entry)) (now (file2 .entry))) from (end - from)) × (drop (max n1 n2) (now (scratch .exit)) ≡ drop (max n1 n2) (now (scratch .entry))) ⌝ }
 {
@@ -151,7 +151,7 @@ fn in_long_lanes(
     end: u64,
     scratch: &mut [u64],
 ) -> u64
-    requires { ⌜ Stretch (now file1) (now file2) n1 n2 d axes from end (now scratch) ⌝ }
+    requires { ⌜ Span (now file1) (now file2) n1 n2 d axes from end (now scratch) ⌝ }
     ensures { λ r. ⌜ (r ≡ first (outputsDiffer (now (file1 .entry)) (now (file2 .entry))) from (end - from)) × (drop (max n1 n2) (now (scratch .exit)) ≡ drop (max n1 n2) (now (scratch .entry))) ⌝ }
 {
     let mut rows1 = [0u64; 16384];

@@ -19,13 +19,13 @@ use Rattle.search.proofs.Search.{first-none, first-here, first-step, first-end}
 use Rattle.sizes.specs.Sizes.{maxInputs}
 use Rattle.vectors.specs.Vectors.{held, Placed}
 use Rattle.engine.specs.Engine.{outputsDiffer}
-use Rattle.engine.specs.Stretch.{Stretch}
+use Rattle.engine.specs.Span.{Span}
 use Rattle.engine.proofs.Outputs.{test-held}
 use Rattle.engine.proofs.by_places.Statement.{statement}
 use Rattle.engine.proofs.by_places.Tie as tie
 
 record Passed (s₁ s₂ : List ℕ) (n₁ n₂ d : ℕ) (axes : List ℕ) (from end : ℕ) (scratch₀ scratch v : List ℕ) (p : ℕ) : Type 0 where
-  stretch : Stretch s₁ s₂ n₁ n₂ d axes from end scratch₀
+  span : Span s₁ s₂ n₁ n₂ d axes from end scratch₀
   long : length scratch ≡ length scratch₀
   kept : drop (max n₁ n₂) scratch ≡ drop (max n₁ n₂) scratch₀
   within : p ≤ end
@@ -44,28 +44,28 @@ module _
       ready₁ : Ready s₁ n₁ v scratch
       ready₁ =
           record {
-            sound = k .stretch .files .sound₁;
-            count = k .stretch .count₁;
-            inputs = omega (arith, k .full, k .stretch .files .sound₁ .inputsHigh);
-            room = omega (arith, k .long, k .stretch .room, le-max-left n₁ n₂);
+            sound = k .span .files .sound₁;
+            count = k .span .count₁;
+            inputs = omega (arith, k .full, k .span .files .sound₁ .inputsHigh);
+            room = omega (arith, k .long, k .span .room, le-max-left n₁ n₂);
           }
 
       ready₂ : Ready s₂ n₂ v scratch
       ready₂ =
           record {
-            sound = k .stretch .files .sound₂;
-            count = k .stretch .count₂;
-            inputs = omega (arith, k .full, k .stretch .files .sound₂ .inputsHigh);
-            room = omega (arith, k .long, k .stretch .room, le-max-right n₁ n₂);
+            sound = k .span .files .sound₂;
+            count = k .span .count₂;
+            inputs = omega (arith, k .full, k .span .files .sound₂ .inputsHigh);
+            room = omega (arith, k .long, k .span .room, le-max-right n₁ n₂);
           }
 
       placed : Placed (take d axes) v
-      placed = record { place = p; inside = omega (arith, k .stretch .inside); shape = k .vector t }
+      placed = record { place = p; inside = omega (arith, k .span .inside); shape = k .vector t }
 
       -- b is the outcome of the test at this place
       module _ (b : Bool) (tested : b ≡ not (eqb (outputOf s₁ v) (outputOf s₂ v))) where
         test : b ≡ outputsDiffer s₁ s₂ p
-        test = tested ∙ test-held s₁ s₂ v p (k .stretch .files .same) (k .vector t ∙ ap (λ us. held (vectorAt us p)) (k .stretch .grid))
+        test = tested ∙ test-held s₁ s₂ v p (k .span .files .same) (k .vector t ∙ ap (λ us. held (vectorAt us p)) (k .span .grid))
 
         found : b ≡ true → p ≡ first (outputsDiffer s₁ s₂) from (end - from)
         found e = sym (k .same ∙ first-here (outputsDiffer s₁ s₂) p (end - p) (sym test ∙ e))
@@ -77,12 +77,12 @@ module _
             Passed s₁ s₂ n₁ n₂ d axes from end scratch₀ scratch' v' (p + 1)
         more scratch' v' e l q w step =
             record {
-              stretch = k .stretch;
+              span = k .span;
               long = l ∙ k .long;
               kept = q ∙ k .kept;
               within = omega arith;
               full = w;
-              vector = λ h. step p (omega (arith, k .stretch .inside)) (k .vector t);
+              vector = λ h. step p (omega (arith, k .span .inside)) (k .vector t);
               same = k .same ∙ first-step (outputsDiffer s₁ s₂) p end t (sym test ∙ e);
             }
 
@@ -100,7 +100,7 @@ vector-at-requires c κs =
 loop-holds : tie.Need-loop-holds Inv-loop μ-loop
 loop-holds c =
     record {
-      stretch = c .before .before .before .before .pre;
+      span = c .before .before .before .before .pre;
       long = refl;
       kept = refl;
       within = omega (arith, c .before .before .before .before .pre .some);
@@ -130,7 +130,7 @@ returns c =
 next-vector-requires : tie.Need-next-vector-requires Inv-loop μ-loop
 next-vector-requires c κs =
     let k = c .before .before .before .before .before .before .before .loop .inv in
-    let r = k .stretch in
+    let r = k .span in
     (omega (arith, r .inputs, r .files .sound₁ .inputsHigh), placed k (c .before .before .before .before .before .before .loop-test .taken))
 
 add-p : tie.Need-add-p Inv-loop μ-loop

@@ -1,4 +1,4 @@
--- `engine::first_difference` meets its contract: each way of comparing answers for the stretch from `from` to `from + count`.
+-- `engine::first_difference` meets its contract: each way of comparing answers for the span from `from` to `from + count`.
 -- Assumes nothing.
 use mathlib.Core.Path.{_≡_, refl, sym, _∙_, ap}
 use mathlib.Core.List.{List}
@@ -10,14 +10,14 @@ use lib.ListN.{drop}
 use Rattle.search.specs.Search.{first}
 use Rattle.search.proofs.Search.{first-none}
 use Rattle.engine.specs.Engine.{outputsDiffer, largerCount}
-use Rattle.engine.specs.Stretch.{Stretch}
-use Rattle.engine.proofs.Prepared.{grid-fits, stretch}
+use Rattle.engine.specs.Span.{Span}
+use Rattle.engine.proofs.Prepared.{grid-fits, span}
 use Rattle.engine.proofs.first_difference.Statement.{statement}
 use Rattle.engine.proofs.first_difference.Tie as tie
 
--- an answer for the stretch of the `count` places from `from` on
+-- an answer for the span of the `count` places from `from` on
 answered :
-    {s₁ s₂ : List ℕ} {n₁ n₂ d : ℕ} {axes : List ℕ} {from end : ℕ} {scratch : List ℕ} → Stretch s₁ s₂ n₁ n₂ d axes from end scratch →
+    {s₁ s₂ : List ℕ} {n₁ n₂ d : ℕ} {axes : List ℕ} {from end : ℕ} {scratch : List ℕ} → Span s₁ s₂ n₁ n₂ d axes from end scratch →
     (count r : ℕ) (scratch' : List ℕ) → end ≡ from + count →
     (r ≡ first (outputsDiffer s₁ s₂) from (end - from)) × (drop (max n₁ n₂) scratch' ≡ drop (max n₁ n₂) scratch) →
     (r ≡ first (outputsDiffer s₁ s₂) from count) × (drop (largerCount s₁ s₂) scratch' ≡ drop (largerCount s₁ s₂) scratch)
@@ -28,11 +28,11 @@ answered {from = from} {end = end} k count r scratch' at e =
 read :
     (c : tie.After-step-count2) →
     let a = c .before .before .before .before .before .before .before .before .before .before .args in
-    Stretch (now (a .file1)) (now (a .file2)) (c .before .step-count .result) (c .step-count2 .result) (c .before .before .before .before .before .read-sizes .result .d)
+    Span (now (a .file1)) (now (a .file2)) (c .before .step-count .result) (c .step-count2 .result) (c .before .before .before .before .before .read-sizes .result .d)
     (c .before .before .before .grid-of .result .axes) (a .from) (a .from + a .count) (now (a .scratch))
 read c =
     let p = c .before .before .before .before .before .before .before .before .before .before .pre in
-    stretch _ _ _ _ (p .0) (c .before .before .before .before .before .read-sizes .ensures) (c .before .before .before .grid-of .ensures) _ _ _ _ _ (c .before .step-count .ensures .0)
+    span _ _ _ _ (p .0) (c .before .before .before .before .before .read-sizes .ensures) (c .before .before .before .grid-of .ensures) _ _ _ _ _ (c .before .step-count .ensures .0)
     (c .step-count2 .ensures .0) (omega (arith, c .before .before .before .before .before .before .if1 .left)) (p .1 .0) (p .1 .1)
 
 returns : tie.Need-returns

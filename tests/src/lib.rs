@@ -24,6 +24,8 @@
 //! | `random` | a generator of numbers with a fixed seed |
 //! | `samples` | random files, sound and damaged |
 //! | `twins` | random pairs of datapaths with the same sizes |
+//! | `spots` | datapaths that differ at chosen vectors alone |
+//! | `mixed` | random datapaths of an exact count of steps, and rewritten ones |
 
 pub mod big;
 pub mod bound;
@@ -33,6 +35,7 @@ pub mod examples;
 pub mod expression;
 pub mod file;
 pub mod grid;
+pub mod mixed;
 pub mod newton;
 pub mod newton_examples;
 pub mod pairs;
@@ -41,6 +44,7 @@ pub mod report;
 pub mod samples;
 pub mod sessions;
 pub mod sizes;
+pub mod spots;
 pub mod tables;
 pub mod twins;
 pub mod value;

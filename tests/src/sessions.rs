@@ -1,10 +1,11 @@
 //! Sessions: what opening and continuing answer, in the layouts of include/corkbingo.h.
 
 use crate::calls::{ACCEPTED, words};
-use crate::file::{Datapath, Refusal, read};
+use crate::file::{Datapath, Refusal, read, write};
 use crate::grid::{axes, size, vector_at};
 use crate::sizes::INPUTS;
 use crate::value::output;
+use std::ops::Range;
 
 /// The words of a session: m, d, n1 to n8, position, mark.
 pub const SESSION: usize = 4 + INPUTS;
@@ -154,16 +155,26 @@ fn judge(
     Err(Refusal::plain(number))
 }
 
-/// The answer and the position and mark that an accepted call leaves.
-fn run(paths: &[Datapath; 2], position: u64, budget: u64) -> ([u64; ANSWER], u64, Mark) {
-    let axes = axes(&paths[0].sizes);
-    let count = size(&axes);
+/// Both outputs at a place of the grid.
+fn outputs_at(paths: &[Datapath; 2], axes: &[u64], place: u64) -> [u64; 2] {
+    let vector = vector_at(axes, place).expect("a place below G");
+    paths.each_ref().map(|path| output(path, &vector).output)
+}
+
+/// The answer and the position and mark that an accepted call leaves, by the outputs at a place.
+fn run(
+    axes: &[u64],
+    position: u64,
+    budget: u64,
+    outputs: impl Fn(u64) -> [u64; 2],
+) -> ([u64; ANSWER], u64, Mark) {
+    let count = size(axes);
     let end = (u128::from(position) + u128::from(budget)).min(u128::from(count)) as u64;
     let mut answer = [0; ANSWER];
     for place in position..end {
-        let vector = vector_at(&axes, place).expect("a place below G");
-        let outputs = paths.each_ref().map(|path| output(path, &vector).output);
+        let outputs = outputs(place);
         if outputs[0] != outputs[1] {
+            let vector = vector_at(axes, place).expect("a place below G");
             answer[KIND] = DIFFERS;
             answer[RUN] = place + 1 - position;
             answer[RUN + 1..][..vector.len()].copy_from_slice(&vector);
@@ -188,6 +199,17 @@ pub fn continued(
     budget: u64,
     scratch: &[u64],
 ) -> Option<Continued> {
+    continued_by(files, session, budget, scratch, outputs_at)
+}
+
+/// The same, with the outputs at a place of the grid given.
+fn continued_by(
+    files: [&[u8]; 2],
+    session: &[u64; SESSION],
+    budget: u64,
+    scratch: &[u64],
+    outputs: impl Fn(&[Datapath; 2], &[u64], u64) -> [u64; 2],
+) -> Option<Continued> {
     let before = Session::from_words(session)?;
     let mut after = Continued {
         answer: [0; ANSWER],
@@ -197,8 +219,10 @@ pub fn continued(
     match judge(files, &before, budget, scratch.len()) {
         Err(refusal) => after.answer[..3].copy_from_slice(&words(refusal)),
         Ok(paths) => {
-            let (answer, position, mark) = run(&paths, before.position, budget);
             let sizes = before.sizes;
+            let axes = axes(&paths[0].sizes);
+            let at = |place| outputs(&paths, &axes, place);
+            let (answer, position, mark) = run(&axes, before.position, budget, at);
             after.answer = answer;
             after.session = Session {
                 sizes,
@@ -210,6 +234,72 @@ pub fn continued(
         }
     }
     Some(after)
+}
+
+/// A pair of the same sizes for many calls: its outputs at the places of a range are worked out
+/// once.
+pub struct Survey {
+    pub paths: [Datapath; 2],
+    pub axes: Vec<u64>,
+    pub places: Range<u64>,
+    files: [Vec<u8>; 2],
+    outputs: Vec<[u64; 2]>,
+}
+
+impl Survey {
+    /// The whole grid.
+    pub fn new(paths: [Datapath; 2]) -> Survey {
+        let count = size(&axes(&paths[0].sizes));
+        Survey::part(paths, 0..count)
+    }
+
+    /// A range of places of the grid. No call may run others.
+    pub fn part(paths: [Datapath; 2], places: Range<u64>) -> Survey {
+        let axes = axes(&paths[0].sizes);
+        let at = |place| outputs_at(&paths, &axes, place);
+        let outputs = places.clone().map(at).collect();
+        let files = paths.each_ref().map(write);
+        Survey {
+            paths,
+            axes,
+            places,
+            files,
+            outputs,
+        }
+    }
+
+    pub fn files(&self) -> [&[u8]; 2] {
+        self.files.each_ref().map(Vec::as_slice)
+    }
+
+    /// G.
+    pub fn count(&self) -> u64 {
+        size(&self.axes)
+    }
+
+    fn outputs(&self, place: u64) -> [u64; 2] {
+        assert!(self.places.contains(&place), "place {place} was left out");
+        self.outputs[(place - self.places.start) as usize]
+    }
+
+    /// The first place from `from` on, to the end of the range, at which the outputs differ.
+    pub fn first(&self, from: u64) -> Option<u64> {
+        let differs = |place: &u64| {
+            let [left, right] = self.outputs(*place);
+            left != right
+        };
+        (from..self.places.end).find(differs)
+    }
+
+    pub fn continued(
+        &self,
+        session: &[u64; SESSION],
+        budget: u64,
+        scratch: &[u64],
+    ) -> Option<Continued> {
+        let known = |_: &[Datapath; 2], _: &[u64], place: u64| self.outputs(place);
+        continued_by(self.files(), session, budget, scratch, known)
+    }
 }
 
 #[cfg(test)]
@@ -278,5 +368,29 @@ mod tests {
     fn a_refused_opening_is_a_session_of_zeros() {
         let found = opened([&SAMPLE_A, &SAMPLE_B[..20]]);
         assert_eq!((found.answer, found.session), ([6, 2, 0], [0; SESSION]));
+    }
+
+    #[test]
+    fn a_survey_answers_as_the_calls_do() {
+        for pair in pairs() {
+            let files = pair.files.each_ref().map(Vec::as_slice);
+            let paths = files.map(|file| read(file, 1).unwrap());
+            let part = Survey::part(paths.clone(), 1..size(&axes(&paths[0].sizes)));
+            let survey = Survey::new(paths);
+            assert_eq!(survey.files(), files);
+            assert_eq!(survey.first(1), part.first(1));
+            let mut session = opened(files).session;
+            for position in 0..=survey.count() {
+                session[POSITION] = position;
+                for (budget, length) in [(0, 99), (1, 99), (2, 98), (u64::MAX, 99), (1, 0)] {
+                    let scratch = vec![7; length];
+                    let found = survey.continued(&session, budget, &scratch);
+                    assert_eq!(found, continued(files, &session, budget, &scratch));
+                    if position > 0 {
+                        assert_eq!(part.continued(&session, budget, &scratch), found);
+                    }
+                }
+            }
+        }
     }
 }

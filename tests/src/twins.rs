@@ -80,7 +80,7 @@ pub fn twin(random: &mut Random, path: &Datapath, kind: Kind) -> Datapath {
     }
 }
 
-fn push(steps: &mut Vec<Step>, step: Step) -> usize {
+pub(crate) fn push(steps: &mut Vec<Step>, step: Step) -> usize {
     steps.push(step);
     steps.len() - 1
 }
@@ -145,14 +145,18 @@ fn vanishing(random: &mut Random, path: &Datapath) -> Datapath {
 }
 
 /// The power of two in k!.
-fn power_in_factorial(k: u64) -> u64 {
+pub(crate) fn power_in_factorial(k: u64) -> u64 {
     k - u64::from(k.count_ones())
 }
 
 /// Whether the product of the falling factorials of these degrees is not 0 modulo 2^m at the
 /// vector of the degrees itself, where it is the product of their factorials.
-fn counts(m: u64, vector: &[u64]) -> bool {
-    vector.iter().copied().map(power_in_factorial).sum::<u64>() < m
+pub fn counts(m: u64, vector: &[u64]) -> bool {
+    power_in_factorials(vector) < m
+}
+
+fn power_in_factorials(vector: &[u64]) -> u64 {
+    vector.iter().copied().map(power_in_factorial).sum()
 }
 
 /// A grid vector that can be made the first difference, late in the grid if m allows.
@@ -169,11 +173,23 @@ pub fn countable(random: &mut Random, sizes: &Sizes) -> Vec<u64> {
 /// Adds the product of the falling factorials of the degrees in `vector`. It is 0 unless every
 /// entry reaches its degree, so the first difference is at `vector` itself, where it counts.
 pub fn late(path: &Datapath, vector: &[u64]) -> Datapath {
+    multiple(path, vector, 1)
+}
+
+/// The same times the power of two with which only the highest of the m bits differs at `vector`;
+/// twice as much would be 0 everywhere.
+pub fn barely(path: &Datapath, vector: &[u64]) -> Datapath {
+    let m = path.sizes.m;
+    assert!(counts(m, vector), "no difference at {vector:?}");
+    multiple(path, vector, 1 << (m - 1 - power_in_factorials(vector)))
+}
+
+fn multiple(path: &Datapath, vector: &[u64], factor: u64) -> Datapath {
     let m = path.sizes.m;
     assert!(counts(m, vector), "no difference at {vector:?}");
     let mut steps = path.steps.clone();
     let last = steps.len() - 1;
-    let mut product = push(&mut steps, Step::Constant(1));
+    let mut product = push(&mut steps, Step::Constant(factor));
     for (input, &k) in vector.iter().enumerate().filter(|(_, k)| **k > 0) {
         let factor = falling(&mut steps, m, input, k);
         product = push(&mut steps, Step::Multiply(product, factor));
@@ -225,6 +241,16 @@ mod tests {
                 panic!("no difference at {vector:?}")
             };
             assert_eq!(shown, vector);
+            let found = compare_paths(&axes(&sizes), &first, &barely(&first, &vector));
+            let Verdict::Differs {
+                vector: shown,
+                outputs,
+            } = found.verdict
+            else {
+                panic!("no difference at {vector:?}")
+            };
+            assert_eq!(shown, vector);
+            assert_eq!(outputs[0] ^ outputs[1], 1 << (sizes.m - 1));
         }
     }
 }

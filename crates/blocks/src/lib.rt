@@ -73,6 +73,9 @@ fn agreeing_lanes(
         refresh(file1, n1, inputs, rows1, list1, count1, t);
         refresh(file2, n2, inputs, rows2, list2, count2, t);
         agreeing = first_unequal(rows1, n1 - 1, rows2, n2 - 1, m, agreeing);
+        if agreeing == 0 {
+            return 0;
+        }
         t += 1;
     }
     agreeing

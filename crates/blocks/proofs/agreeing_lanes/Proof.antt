@@ -110,40 +110,58 @@ first-unequal-requires c κs =
       inv .few,
     )
 
+same-length : tie.Need-same-length Inv-loop μ-loop
+same-length c =
+    let r = first (c .before .before .before .before .before .before) in
+    r .refresh .kept .1 .1 .1 .0 ∙ head (filled r) .loop .inv .long₁
+
+same-length-2 : tie.Need-same-length-2 Inv-loop μ-loop
+same-length-2 c =
+    let r = c .before .before .before .before .before .before in
+    r .refresh2 .kept .1 .1 .1 .0 ∙ head (filled (first r)) .loop .inv .long₂
+
+same-length-3 : tie.Need-same-length-3 Inv-loop μ-loop
+same-length-3 c =
+    let f = filled (first (c .before .before .before .before .before .before)) in
+    f .fill-row .kept .0 ∙ head f .loop .inv .long
+
+returns : tie.Need-returns Inv-loop μ-loop
+returns c = (omega arith, λ l x h. absurd (omega arith))
+
 add-t : tie.Need-add-t Inv-loop μ-loop
 add-t c =
-    let f = filled (first (c .before .before .before .before .before)) in
+    let f = filled (first (c .before .before .before .before .before .before)) in
     omega (arith, axis-fits (entry (head f)) .fits, f .before .before .loop-test .taken)
 
 loop-less : tie.Need-loop-less Inv-loop μ-loop
-loop-less c = omega (arith, filled (first (c .before .before .before .before .before)) .before .before .loop-test .taken)
+loop-less c = omega (arith, filled (first (c .before .before .before .before .before .before)) .before .before .loop-test .taken)
 
 loop-again : tie.Need-loop-again Inv-loop μ-loop
 unfolding sizesOf
 loop-again c =
-    let f = filled (first (c .before .before .before .before .before)) in
+    let f = filled (first (c .before .before .before .before .before .before)) in
     let e = entry (head f) in
     let q = e .pre in
     let inv = head f .loop .inv in
-    let run₁ = first (c .before .before .before .before .before) .refresh in
-    let run₂ = c .before .before .before .before .before .refresh2 in
+    let run₁ = first (c .before .before .before .before .before .before) .refresh in
+    let run₂ = c .before .before .before .before .before .before .refresh2 in
     let long₁ = run₁ .kept .1 .1 .1 .0 in
     let long₂ = run₂ .kept .1 .1 .1 .0 in
     more _ _ _ _ _ _ _ _ _ _ _ _ _ _ _ _ _
     (prepared-kept (q .0) _ _ (long₁ ∙ inv .long₁) (long₂ ∙ inv .long₂)) inv (f .fill-row .ensures) (now (e .args .list1)) (now (e .args .list2)) _ _ _ _
-    (f .fill-row .kept .0) long₁ long₂ (q .1 .1 .0 .0) (q .1 .1 .0 .1) (run₁ .ensures) (run₂ .ensures) refl (c .first-unequal .ensures)
+    (f .fill-row .kept .0) long₁ long₂ (q .1 .1 .0 .0) (q .1 .1 .0 .1) (run₁ .ensures) (run₂ .ensures) refl (c .before .first-unequal .ensures)
 
-same-length : tie.Need-same-length Inv-loop μ-loop
-same-length c = c .before .loop .inv .long₁
+same-length-4 : tie.Need-same-length-4 Inv-loop μ-loop
+same-length-4 c = c .before .loop .inv .long₁
 
-same-length-2 : tie.Need-same-length-2 Inv-loop μ-loop
-same-length-2 c = c .before .loop .inv .long₂
+same-length-5 : tie.Need-same-length-5 Inv-loop μ-loop
+same-length-5 c = c .before .loop .inv .long₂
 
-same-length-3 : tie.Need-same-length-3 Inv-loop μ-loop
-same-length-3 c = c .before .loop .inv .long
+same-length-6 : tie.Need-same-length-6 Inv-loop μ-loop
+same-length-6 c = c .before .loop .inv .long
 
-returns : tie.Need-returns Inv-loop μ-loop
-returns c =
+returns-2 : tie.Need-returns-2 Inv-loop μ-loop
+returns-2 c =
     let k = c .before .loop .inv in
     (k .few, λ l x h f less. k .agree l x h f (omega (arith, c .loop-test .left)))
 
@@ -166,10 +184,14 @@ agreeing-lanes-spec =
     sub-first-unequal
     sub-first-unequal-2
     first-unequal-requires
-    add-t
-    loop-less
-    loop-again
     same-length
     same-length-2
     same-length-3
-    returns)
+    returns
+    add-t
+    loop-less
+    loop-again
+    same-length-4
+    same-length-5
+    same-length-6
+    returns-2)

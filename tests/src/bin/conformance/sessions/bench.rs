@@ -2,7 +2,7 @@
 
 use super::Files;
 use crate::bench::{Bench, Outcome, first_difference, named};
-use reference::sessions::{self, Continued, Opened, SESSION};
+use reference::sessions::{self, Continued, Opened, SESSION, Survey};
 
 /// What a session slice holds before an opening; of no meaning.
 const BEFORE: [u64; SESSION] = [u64::MAX; SESSION];
@@ -43,22 +43,33 @@ impl Bench {
         budget: u64,
         scratch: &[u64],
     ) -> Outcome<Option<Continued>> {
-        let found = self.product.continued(files, session, budget, scratch)?;
         let expected = sessions::continued(files, session, budget, scratch);
+        self.compared(files, session, budget, scratch, &expected)?;
+        Ok(expected)
+    }
+
+    fn compared(
+        &mut self,
+        files: Files,
+        session: &[u64; SESSION],
+        budget: u64,
+        scratch: &[u64],
+        expected: &Option<Continued>,
+    ) -> Outcome {
+        let found = self.product.continued(files, session, budget, scratch)?;
         let call = || {
             let call = both("continue", files);
             let length = scratch.len();
             format!("{call} from {session:?} by {budget} with {length} scratch words")
         };
         let words = |done: &Continued| (done.answer, done.session);
-        let [found_words, expected_words] =
-            [&found, &expected].map(|done| done.as_ref().map(words));
+        let [found_words, expected_words] = [&found, expected].map(|done| done.as_ref().map(words));
         self.same(&found_words, &expected_words, call)?;
-        if let (Some(found), Some(expected)) = (&found, &expected) {
+        if let (Some(found), Some(expected)) = (&found, expected) {
             let wrong = first_difference(&found.scratch, &expected.scratch);
             self.same(&wrong, &None, || format!("wrong scratch entry, {}", call()))?;
         }
-        Ok(expected)
+        Ok(())
     }
 
     /// The same from a session whose words fit.
@@ -71,5 +82,18 @@ impl Bench {
     ) -> Outcome<Continued> {
         let done = self.continued(files, session, budget, scratch)?;
         done.ok_or_else(|| format!("no answer to a session of fitting words {session:?}"))
+    }
+
+    /// The same for a pair whose outputs are worked out already.
+    pub fn surveyed(
+        &mut self,
+        survey: &Survey,
+        session: &[u64; SESSION],
+        budget: u64,
+        scratch: &[u64],
+    ) -> Outcome<Continued> {
+        let expected = survey.continued(session, budget, scratch);
+        self.compared(survey.files(), session, budget, scratch, &expected)?;
+        expected.ok_or_else(|| format!("no answer to a session of fitting words {session:?}"))
     }
 }

@@ -1,2 +1,2 @@
 pub mod Along
-pub mod LastAxis
+pub mod GridRows

@@ -14,7 +14,6 @@ use Rattle.file.specs.File.{sizesOf, stepCount}
 use Rattle.grid.specs.Grid.{axesOf, gridOf, gridSize, tooLarge}
 use Rattle.grid.specs.declared.Grid.{Grid}
 use Rattle.grid.proofs.Axes.{never-large}
-use Rattle.places.specs.Places.{size}
 use Rattle.rows.specs.Rows.{laneCount}
 use Rattle.sizes.specs.declared.Sizes.{Sizes}
 use Rattle.engine.specs.Engine.{largerCount, Comparable}

@@ -1,27 +1,21 @@
 -- A word stands for an integer modulo 2^m: what holds of two words and the integers that they stand for holds of their wrapping sum, difference
 -- and product, since 2^m divides 2^64, and of the product of their low 32 bits, where m is 32 or less.
 -- Assumes nothing.
-use mathlib.Core.Path.{_≡_, sym, _∙_, ap, ap₂, subst}
+use mathlib.Core.Path.{_≡_, sym, _∙_, ap₂, subst}
 use Prim.Native.Nat.{ℕ, _+_, _*_, _-_, _%_, _^_, _≤_, _<_}
 use native.Mathlib.Nat.{add-mod, mod-lt}
 use native.Mathlib.Omega.{arith}
 use lib.IntN.{ℤ, pos, _+ℤ_, _-ℤ_, _*ℤ_}
-use lib.Pow.{pow-pos, pow-add}
+use lib.Pow.{pow-pos}
 use Rattle.integers.specs.Modulo.{Divides, remainder}
 use Rattle.integers.proofs.Divisibility.{divides-add, divides-sub, divides-coarse, divides-self}
-use Rattle.integers.proofs.Remainder.{remainder-add, remainder-mul, remainder-coarse, congruent→equal, equal→congruent}
+use Rattle.integers.proofs.Remainder.{remainder-add, remainder-mul, congruent→equal, equal→congruent}
 use Rattle.integers.proofs.Ring.{sub-push, sub-eq, ring₂}
-
--- a smaller power of 2 divides a larger
-power-split : (j m : ℕ) → m ≤ j → 2 ^ j ≡ 2 ^ (j - m) * 2 ^ m
-power-split j m h = ap (λ k. 2 ^ k) split ∙ pow-add 2 (j - m) m
-  where
-    split : j ≡ j - m + m
-    split = omega arith
+use Rattle.words.proofs.Congruence.{power-split, cut-power}
 
 cut-cut : (x j m : ℕ) → m ≤ j → x % 2 ^ j % 2 ^ m ≡ x % 2 ^ m
 unfolding remainder
-cut-cut x j m h = ap (λ M. x % M % 2 ^ m) (power-split j m h) ∙ remainder-coarse (pos x) (2 ^ (j - m)) (2 ^ m) (pow-pos (j - m)) (pow-pos m)
+cut-cut x j m h = cut-power (pos x) j m h
 
 module _
     (m x y : ℕ) (a b : ℤ)

@@ -1,2 +1,3 @@
+pub mod LastAxis
 pub mod Order
 pub mod Places

@@ -11,7 +11,7 @@ use Rattle.places.specs.Places.{Below, Before, size, vectorAt, placeOf}
 use Rattle.places.specs.Statement.{OneToOne, InOrder}
 
 -- the later axes hold a vector where the whole list does
-rest-pos : (u s p : ℕ) → p < u * s → 0 < s
+pub rest-pos : (u s p : ℕ) → p < u * s → 0 < s
 rest-pos u zero p h = absurd (not-suc-le-zero (subst (λ (n : ℕ). p < n) (mul-zero u) h))
 rest-pos u (suc s) p h = omega arith
 

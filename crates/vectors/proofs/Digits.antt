@@ -8,15 +8,10 @@ use native.Mathlib.Omega.{arith}
 use lib.ListN.{length, getD, take, drop, set, replicate, length-set, length-replicate, replicate-append-replicate, List·getD-append}
 use lib.Seq.{drop-cons, drop-length, set-append-left, take-at}
 use Rattle.places.specs.Places.{Below, size, vectorAt, placeOf}
+use Rattle.places.proofs.LastAxis.{below-length}
 use Rattle.places.proofs.Places.{oneToOne}
 use Rattle.sizes.specs.Sizes.{maxInputs}
 use Rattle.vectors.specs.Vectors.{held}
-
-below-length : (us x : List ℕ) → Below us x → length x ≡ length us
-below-length [] [] b = refl
-below-length [] (y ∷ ys) b = absurd b
-below-length (u ∷ us) [] b = absurd b
-below-length (u ∷ us) (y ∷ ys) b = ap suc (below-length us ys (b .1))
 
 below-at : (us x : List ℕ) (i : ℕ) → Below us x → i < length us → getD x i 0 < getD us i 0
 below-at [] x i b h = absurd (omega arith)

@@ -22,10 +22,16 @@ word-sub r a b h e = omega (arith, remainder-sub a b (2 ^ 64) (pow-pos 64), word
 pub word-mul : (a b : ℤ) → (word a * word b) % 2 ^ 64 ≡ word (a *ℤ b)
 word-mul a b = sym (remainder-mul a b (2 ^ 64) (pow-pos 64))
 
-pub word-cut : (z : ℤ) (m : ℕ) → m ≤ 64 → word z % 2 ^ m ≡ remainder z (2 ^ m)
-word-cut z m h =
-    ap (λ M. remainder z M % 2 ^ m) (ap (λ k. 2 ^ k) split ∙ pow-add 2 (64 - m) m)
-    ∙ remainder-coarse z (2 ^ (64 - m)) (2 ^ m) (pow-pos (64 - m)) (pow-pos m)
+-- a smaller power of 2 divides a larger
+pub power-split : (j m : ℕ) → m ≤ j → 2 ^ j ≡ 2 ^ (j - m) * 2 ^ m
+power-split j m h = ap (λ k. 2 ^ k) split ∙ pow-add 2 (j - m) m
   where
-    split : 64 ≡ 64 - m + m
+    split : j ≡ j - m + m
     split = omega arith
+
+pub cut-power : (z : ℤ) (j m : ℕ) → m ≤ j → remainder z (2 ^ j) % 2 ^ m ≡ remainder z (2 ^ m)
+cut-power z j m h =
+    ap (λ M. remainder z M % 2 ^ m) (power-split j m h) ∙ remainder-coarse z (2 ^ (j - m)) (2 ^ m) (pow-pos (j - m)) (pow-pos m)
+
+pub word-cut : (z : ℤ) (m : ℕ) → m ≤ 64 → word z % 2 ^ m ≡ remainder z (2 ^ m)
+word-cut z m h = cut-power z 64 m h

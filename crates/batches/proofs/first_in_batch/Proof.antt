@@ -1,12 +1,12 @@
 -- `batches::first_in_batch` meets its contract: the lanes hold the vectors, the rows the values there, and the lanes are searched in order.
 -- Assumes nothing.
-use mathlib.Core.Path.{_≡_, refl, sym, _∙_}
+use mathlib.Core.Path.{refl}
 use native.Mathlib.Omega.{arith}
 use borrow.Author.Needs.{needs}
 use denote.Ref.{now}
 use lib.ListN.{getD}
 use Rattle.file.specs.File.{sizesOf}
-use Rattle.batches.proofs.Tests.{room₁, room₂, prepared-kept, batch-first}
+use Rattle.batches.proofs.Tests.{room₂, prepared-kept, batch-first}
 use Rattle.batches.proofs.first_in_batch.Statement.{statement}
 use Rattle.batches.proofs.first_in_batch.Tie as tie
 

@@ -1,17 +1,17 @@
 -- `batches::set_lanes` meets its contract. The loop's invariant: v is the vector of the last lane set, and the lanes set hold theirs.
 -- Assumes nothing.
-use mathlib.Core.Path.{_≡_, refl, sym, _∙_, ap}
+use mathlib.Core.Path.{_≡_, refl, _∙_, ap}
 use mathlib.Core.Logic.{⊎-elim}
 use mathlib.Core.List.{List}
 use Prim.Native.Nat.{ℕ, _+_, _-_, _≤_, _<_}
-use native.Mathlib.Nat.{eq-or-lt-of-le, add-zero}
+use native.Mathlib.Nat.{eq-or-lt-of-le}
 use native.Mathlib.Omega.{arith}
 use borrow.Author.Needs.{needs}
 use denote.Ref.{now}
 use lib.ListN.{length, getD, take}
-use Rattle.places.specs.Places.{size, vectorAt}
+use Rattle.places.specs.Places.{vectorAt}
 use Rattle.rows.specs.Rows.{laneCount, lane}
-use Rattle.vectors.specs.Vectors.{held, Placed}
+use Rattle.vectors.specs.Vectors.{held}
 use Rattle.vectors.proofs.Held.{held-entry}
 use Rattle.batches.proofs.set_lanes.Statement.{statement}
 use Rattle.batches.proofs.set_lanes.Tie as tie

@@ -22,7 +22,7 @@ use Rattle.lists.proofs.Lists.{drop-later}
 use Rattle.places.specs.Places.{size, vectorAt}
 use Rattle.rows.specs.Rows.{laneCount, lane}
 use Rattle.blocks.proofs.Along.{Front}
-use Rattle.blocks.proofs.LastAxis.{size-rows, axis-pos, row-front, row-last}
+use Rattle.blocks.proofs.GridRows.{size-rows, axis-pos, row-front, row-last}
 use Rattle.blocks.proofs.agreed_rows.Statement.{statement}
 use Rattle.blocks.proofs.agreed_rows.Tie as tie
 

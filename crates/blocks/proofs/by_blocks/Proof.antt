@@ -12,7 +12,7 @@ use lib.ListN.{length, getD}
 use Rattle.batches.proofs.Tests.{prepared-kept}
 use Rattle.search.specs.Search.{first}
 use Rattle.search.proofs.Search.{first-before, NoneBelow, first-past, first-part}
-use Rattle.blocks.proofs.LastAxis.{axis-pos}
+use Rattle.blocks.proofs.GridRows.{axis-pos}
 use Rattle.blocks.proofs.by_blocks.Statement.{statement}
 use Rattle.blocks.proofs.by_blocks.Tie as tie
 

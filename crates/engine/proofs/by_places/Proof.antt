@@ -8,14 +8,13 @@ use Prim.Native.Nat.{ℕ, _+_, _-_, _≤_, _<_, max}
 use native.Mathlib.Nat.{le-max-left, le-max-right}
 use native.Mathlib.Omega.{arith}
 use borrow.Author.Needs.{needs}
-use denote.Ref.{now}
 use lib.Dec.{eqb}
 use lib.ListN.{length, take, drop}
 use Rattle.evaluate.specs.Evaluate.{outputOf}
 use Rattle.evaluate.specs.Run.{Ready}
 use Rattle.places.specs.Places.{size, vectorAt}
 use Rattle.search.specs.Search.{first}
-use Rattle.search.proofs.Search.{first-none, first-here, first-step, first-end}
+use Rattle.search.proofs.Search.{first-here, first-step, first-end}
 use Rattle.sizes.specs.Sizes.{maxInputs}
 use Rattle.vectors.specs.Vectors.{held, Placed}
 use Rattle.engine.specs.Engine.{outputsDiffer}

@@ -51,10 +51,10 @@ static uint64_t by_session(const struct library *l) {
     do
         l->resume(pair->file[0], pair->length[0], pair->file[1], pair->length[1], session, CORKBINGO_SESSION_WORDS, budget, scratch, 1024,
                   answer, CORKBINGO_CONTINUE_WORDS);
-    while (answer[3] == CORKBINGO_SPENT);
-    if (answer[3] == CORKBINGO_REFUSED)
+    while (answer[CORKBINGO_ANSWER_KIND] == CORKBINGO_KIND_SPENT);
+    if (answer[CORKBINGO_ANSWER_KIND] == CORKBINGO_KIND_REFUSED)
         fail("the pair is refused");
-    return session[10] - (answer[3] == CORKBINGO_DIFFERS);
+    return session[CORKBINGO_SESSION_POSITION] - (answer[CORKBINGO_ANSWER_KIND] == CORKBINGO_KIND_DIFFERS);
 }
 
 /* The plain loop: a file's steps interpreted from its bytes. */

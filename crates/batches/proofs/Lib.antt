@@ -1,1 +1,2 @@
+pub mod OnGrid
 pub mod Tests

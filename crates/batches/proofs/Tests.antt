@@ -1,10 +1,10 @@
 -- The test in a lane is the test of the outputs at its vector, and over the grid's vector at a place the test at that place.
 -- Assumes nothing.
 use mathlib.Core.Path.{_≡_, sym, _∙_, ap, ap₂}
-use mathlib.Core.Bool.{not}
+use mathlib.Core.Bool.{Bool, not}
 use mathlib.Core.List.{List}
 use Prim.Native.Nat.{ℕ, _+_, _*_, _-_, _%_, _^_, _≤_, _<_}
-use native.Mathlib.Nat.{add-zero}
+use native.Mathlib.Nat.{add-zero, mul-le-mul-left}
 use native.Mathlib.Omega.{arith}
 use lib.Dec.{eqb}
 use lib.ListN.{length, getD, take}
@@ -12,12 +12,14 @@ use Rattle.evaluate.specs.Evaluate.{outputOf}
 use Rattle.file.specs.File.{sizesOf}
 use Rattle.file.specs.Steps.{stepsOf}
 use Rattle.grid.specs.Grid.{axesOf}
-use Rattle.lanes.specs.Lanes.{Reads, HeldTo, Room}
+use Rattle.lanes.specs.Lanes.{Reads, HeldTo, Shown, Room}
 use Rattle.lanes.proofs.Values.{lane-output}
 use Rattle.places.specs.Places.{vectorAt}
-use Rattle.rows.specs.Rows.{laneCount, lane, unequal}
+use Rattle.rows.specs.Rows.{lane, unequal}
+use Rattle.rows.proofs.Writing.{before-row}
 use Rattle.search.specs.Search.{first}
 use Rattle.search.proofs.Search.{first-shift}
+use Rattle.sizes.specs.Sizes.{maxInputs}
 use Rattle.sizes.specs.declared.Sizes.{Sizes}
 use Rattle.steps.specs.Steps.{output}
 use Rattle.theorem.specs.Comparison.{differsAt}
@@ -33,60 +35,80 @@ output-test s₁ s₂ p same =
     ap (λ (z : Sizes). not (eqb (outputOf s₁ x) (output (z .m) (stepsOf s₂) x))) (sym same)
 
 module _
-    {s₁ s₂ : List ℕ} {n₁ n₂ d : ℕ} {axes rows₁ rows₂ : List ℕ} (k : Prepared s₁ s₂ n₁ n₂ d axes rows₁ rows₂)
+    {w : ℕ} {turn : Bool} {s₁ s₂ : List ℕ} {n₁ n₂ d : ℕ} {axes rows other : List ℕ} (k : Prepared w turn s₁ s₂ n₁ n₂ d axes rows other)
   where
-    pub room₁ : (inputs : List ℕ) → laneCount * d ≤ length inputs → Room s₁ n₁ inputs rows₁
-    room₁ inputs h =
-        record { sound = k .files .sound₁; count = k .count₁; inputRows = rw (← k .inputs) h; stepRows = k .room₁ }
+    -- row n - 1 is a row of any rows for n steps
+    pub last₁ : w * (n₁ - 1) + w ≤ w * n₁
+    last₁ = before-row w (n₁ - 1) n₁ (omega (arith, k .count₁, k .files .sound₁ .countLow))
 
-    pub room₂ : (inputs : List ℕ) → laneCount * d ≤ length inputs → Room s₂ n₂ inputs rows₂
-    room₂ inputs h =
+    pub last₂ : w * (n₂ - 1) + w ≤ w * n₂
+    last₂ = before-row w (n₂ - 1) n₂ (omega (arith, k .count₂, k .files .sound₂ .countLow))
+
+    -- rows for all inputs that a file may have are rows for the d inputs
+    pub inputs-room : (inputs : List ℕ) → w * maxInputs ≤ length inputs → w * d ≤ length inputs
+    inputs-room inputs h =
+        let few : d ≤ maxInputs = omega (arith, k .inputs, k .files .sound₁ .inputsHigh) in
+        omega (arith, mul-le-mul-left w few)
+
+    pub room₁ : (inputs : List ℕ) → w * d ≤ length inputs → Room w s₁ n₁ inputs rows
+    room₁ inputs h = record { width = k .width; sound = k .files .sound₁; count = k .count₁; inputRows = rw (← k .inputs) h; stepRows = k .room₁ }
+
+    -- in any rows with room for the steps of file 2
+    pub room₂ : (inputs space : List ℕ) → w * d ≤ length inputs → w * n₂ ≤ length space → Room w s₂ n₂ inputs space
+    room₂ inputs space h r =
         record {
+          width = k .width;
           sound = k .files .sound₂;
           count = k .count₂;
           inputRows = rw (← k .files .same, ← k .inputs) h;
-          stepRows = k .room₂;
+          stepRows = r;
         }
 
+    pub shown₁ : (space x : List ℕ) (l : ℕ) → HeldTo w s₁ x space l n₁ → Shown w s₁ x space l (n₁ - 1)
+    shown₁ space x l h = lane-output w s₁ x space l n₁ (k .count₁) (h (n₁ - 1) (omega (arith, k .count₁, k .files .sound₁ .countLow)))
+
+    pub shown₂ : (space x : List ℕ) (l : ℕ) → HeldTo w s₂ x space l n₂ → Shown w s₂ x space l (n₂ - 1)
+    shown₂ space x l h = lane-output w s₂ x space l n₂ (k .count₂) (h (n₂ - 1) (omega (arith, k .count₂, k .files .sound₂ .countLow)))
+
     pub lane-test :
-        (l : ℕ) (x : List ℕ) → HeldTo s₁ x rows₁ l n₁ → HeldTo s₂ x rows₂ l n₂ →
-        unequal (sizesOf s₁ .m) rows₁ (n₁ - 1) rows₂ (n₂ - 1) l ≡ not (eqb (outputOf s₁ x) (outputOf s₂ x))
+        (v u : List ℕ) (a b l : ℕ) (x : List ℕ) → Shown w s₁ x v l a → Shown w s₂ x u l b →
+        unequal w (sizesOf s₁ .m) v a u b l ≡ not (eqb (outputOf s₁ x) (outputOf s₂ x))
     unfolding unequal
-    lane-test l x h₁ h₂ =
-        ap₂ (λ a b. not (eqb a b))
-        (lane-output s₁ x rows₁ l n₁ (k .count₁) (h₁ (n₁ - 1) (omega (arith, k .count₁, k .files .sound₁ .countLow))))
-        (ap (λ (z : Sizes). lane rows₂ (n₂ - 1) l % 2 ^ z .m) (k .files .same)
-        ∙ lane-output s₂ x rows₂ l n₂ (k .count₂) (h₂ (n₂ - 1) (omega (arith, k .count₂, k .files .sound₂ .countLow))))
+    lane-test v u a b l x h₁ h₂ =
+        ap₂ (λ p q. not (eqb p q)) h₁ (ap (λ (z : Sizes). lane w u b l % 2 ^ z .m) (k .files .same) ∙ h₂)
 
     -- the slices may be written, and keep their lengths
     pub prepared-kept :
-        (rows₁' rows₂' : List ℕ) → length rows₁' ≡ length rows₁ → length rows₂' ≡ length rows₂ → Prepared s₁ s₂ n₁ n₂ d axes rows₁' rows₂'
-    prepared-kept rows₁' rows₂' e₁ e₂ =
+        (rows' other' : List ℕ) → length rows' ≡ length rows → length other' ≡ length other → Prepared w turn s₁ s₂ n₁ n₂ d axes rows' other'
+    prepared-kept rows' other' e₁ e₂ =
         record {
+          width = k .width;
           files = k .files;
           count₁ = k .count₁;
           count₂ = k .count₂;
           inputs = k .inputs;
           grid = k .grid;
           room₁ = rw e₁ (k .room₁);
-          room₂ = rw e₂ (k .room₂);
+          room₂ = λ t. rw e₂ (k .room₂ t);
+          shared = λ t. rw e₁ (k .shared t);
+          saved = λ t. rw e₂ (k .saved t);
         }
 
-    -- lanes that hold the vectors from place p on, and rows the values there: the first lane that differs is that of the first place
+    -- lanes that hold the vectors from place p on, and rows a and b the outputs there: the first lane that differs is that of the first place
     pub batch-first :
-        (inputs : List ℕ) (p live m r : ℕ) → m ≡ sizesOf s₁ .m → live ≤ laneCount →
-        ((i l : ℕ) → i < d → l < live → lane inputs i l ≡ getD (vectorAt (take d axes) (p + l)) i 0) →
-        ((l : ℕ) (x : List ℕ) → l < laneCount → Reads s₁ inputs l x → HeldTo s₁ x rows₁ l n₁) →
-        ((l : ℕ) (x : List ℕ) → l < laneCount → Reads s₂ inputs l x → HeldTo s₂ x rows₂ l n₂) →
-        r ≡ first (unequal m rows₁ (n₁ - 1) rows₂ (n₂ - 1)) 0 live → p + r ≡ first (outputsDiffer s₁ s₂) p live
-    batch-first inputs p live m r e room columns run₁ run₂ found =
-        ap (λ l. p + l) (found ∙ ap (λ j. first (unequal j rows₁ (n₁ - 1) rows₂ (n₂ - 1)) 0 live) e)
-        ∙ sym (first-shift (outputsDiffer s₁ s₂) (unequal (sizesOf s₁ .m) rows₁ (n₁ - 1) rows₂ (n₂ - 1)) p 0 live (λ l low high. sym (test l (omega arith))))
+        (inputs v u : List ℕ) (a b p live m r : ℕ) → m ≡ sizesOf s₁ .m → live ≤ w →
+        ((i l : ℕ) → i < maxInputs → l < live → lane w inputs i l ≡ getD (vectorAt (take d axes) (p + l)) i 0) →
+        ((l : ℕ) (x : List ℕ) → l < w → Reads w s₁ inputs l x → Shown w s₁ x v l a) →
+        ((l : ℕ) (x : List ℕ) → l < w → Reads w s₂ inputs l x → Shown w s₂ x u l b) →
+        r ≡ first (unequal w m v a u b) 0 live → p + r ≡ first (outputsDiffer s₁ s₂) p live
+    batch-first inputs v u a b p live m r e room columns run₁ run₂ found =
+        ap (λ l. p + l) (found ∙ ap (λ j. first (unequal w j v a u b) 0 live) e)
+        ∙ sym (first-shift (outputsDiffer s₁ s₂) (unequal w (sizesOf s₁ .m) v a u b) p 0 live (λ l low high. sym (test l (omega arith))))
         ∙ ap (λ q. first (outputsDiffer s₁ s₂) q live) (add-zero p)
       where
-        test : (l : ℕ) → l < live → unequal (sizesOf s₁ .m) rows₁ (n₁ - 1) rows₂ (n₂ - 1) l ≡ outputsDiffer s₁ s₂ (p + l)
+        test : (l : ℕ) → l < live → unequal w (sizesOf s₁ .m) v a u b l ≡ outputsDiffer s₁ s₂ (p + l)
         test l h =
             let x = vectorAt (axesOf (sizesOf s₁)) (p + l) in
-            let reads₁ : Reads s₁ inputs l x = λ i hi. rw (k .grid) at (columns i l (rw (k .inputs) hi) h) in
-            lane-test l x (run₁ l x (omega arith) reads₁) (run₂ l x (omega arith) (λ i hi. reads₁ i (rw (k .files .same) hi)))
+            let reads₁ : Reads w s₁ inputs l x = λ i hi. rw (k .grid) at (columns i l (omega (arith, hi, k .files .sound₁ .inputsHigh)) h) in
+            lane-test v u a b l x (run₁ l x (omega arith) reads₁) (run₂ l x (omega arith) (λ i hi. reads₁ i (rw (k .files .same) hi)))
             ∙ output-test s₁ s₂ (p + l) (k .files .same)

@@ -1,2 +1,3 @@
+pub mod Batch
 pub mod Comparison
 pub mod Prepared

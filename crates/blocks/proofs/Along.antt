@@ -1,32 +1,38 @@
--- Along 16 rows of a grid, a lane for each: a vector stands beside the one before it in its row, so the rows of a file that hold the values there
+-- Along w rows of a grid, a lane for each: a vector stands beside the one before it in its row, so the rows of a file that hold the values there
 -- and are computed again hold those at the vector. Before the first lane that differs then, the outputs agree.
---   Front d inputs l x                              lane l of the input rows before the last of d is the front of the vector x
---   Refreshed s n inputs before after list count t  what `refresh` promises
---   Agreed s₁ s₂ .. a t                             the invariant of `agreeing_lanes`: the lanes' fronts are as at entry, in the first a lanes the
+--   Agreed w s₁ s₂ .. a t                             the invariant of `agreeing_lanes`: the lanes' fronts are as at entry, in the first a lanes the
 --                                                   outputs agree at every vector with a last input below t, and in all lanes the rows hold the
---                                                   values at those with the last input t - 1
+--                                                   values at those with the last input t - 1; every lane is on the grid
+--   Walked w s n d .. t                               the invariant of one file along the rows: the fronts are as at entry, every lane is on the grid, and the
+--                                                   rows hold the values at the vectors with the last input t - 1
+--   SavedTo w s d inputs saved r t                    in the first r lanes the saved rows show the outputs at every vector with a last input below t
 -- Assumes nothing.
+use mathlib.Core.Bool.{Bool, false}
 use mathlib.Core.Path.{_≡_, refl, sym, _∙_, ap}
 use mathlib.Core.Logic.{⊎-elim}
 use mathlib.Core.List.{List}
-use Prim.Native.Nat.{ℕ, _+_, _-_, _≤_, _<_}
+use Prim.Native.Nat.{ℕ, _+_, _-_, _%_, _^_, _≤_, _<_}
 use native.Mathlib.Decide.{ℕ-discrete}
 use native.Mathlib.Nat.{eq-or-lt-of-le}
 use native.Mathlib.Omega.{arith}
 use borrow.Author.Tests.{eqb-true, not-false}
-use lib.ListN.{length, getD, set, length-append, length-replicate}
-use lib.Seq.{getD-set-same, getD-set-other}
+use lib.ListN.{length, getD, take, set, length-append, length-replicate}
+use lib.Seq.{getD-set-same, getD-set-other, getD-take}
 use Rattle.batches.specs.Prepared.{Prepared}
-use Rattle.batches.proofs.Tests.{lane-test}
+use Rattle.batches.proofs.Tests.{shown₁, shown₂, lane-test}
 use Rattle.evaluate.specs.Evaluate.{outputOf}
-use Rattle.file.specs.File.{sizesOf}
-use Rattle.lanes.specs.Lanes.{Reads, HeldTo, Beside, Rest}
-use Rattle.rows.specs.Rows.{laneCount, lane, Written, unequal}
+use Rattle.file.specs.Accepted.{Accepted}
+use Rattle.file.specs.File.{sizesOf, stepCount}
+use Rattle.grid.specs.Grid.{axesOf}
+use Rattle.lanes.specs.Lanes.{Reads, HeldTo, Shown, Beside, Rest, LanesOnGrid}
+use Rattle.lanes.proofs.Values.{lane-output}
+use Rattle.rows.specs.Rows.{lane, Written, unequal}
 use Rattle.search.specs.Search.{first}
 use Rattle.search.proofs.Search.{first-high, first-before}
 use Rattle.sizes.specs.Sizes.{maxInputs}
 use Rattle.vectors.specs.Vectors.{held}
 use Rattle.vectors.proofs.Held.{held-entry}
+use Rattle.blocks.specs.Block.{Front, Last, Refreshed, AlongRow}
 
 -- beside every vector stands one with the value v for input j
 module _ (y : List ℕ) (j v : ℕ) where
@@ -36,46 +42,65 @@ module _ (y : List ℕ) (j v : ℕ) where
   beside-at : j < maxInputs → getD (set (held y) j v) j 0 ≡ v
   beside-at h = getD-set-same (held y) j v 0 (simp (length-append, length-replicate) (omega arith))
 
-abbrev pub Front : ℕ → List ℕ → ℕ → List ℕ → Type 0
-Front d inputs l x = (i : ℕ) → i < d - 1 → lane inputs i l ≡ getD x i 0
-
-abbrev pub Refreshed : List ℕ → ℕ → List ℕ → List ℕ → List ℕ → List ℕ → ℕ → ℕ → Type 0
-Refreshed s n inputs before after list count t =
-    (j l : ℕ) (x y : List ℕ) → l < laneCount → Rest s j n list count → Beside j x y → Reads s inputs l y → (0 < t → HeldTo s x before l n) →
-    HeldTo s y after l n
-
-pub record Agreed (s₁ s₂ : List ℕ) (n₁ n₂ d : ℕ) (inputs₀ before₁ before₂ rows₁ rows₂ inputs : List ℕ) (a t : ℕ) : Type 0 where
+pub record Agreed (w : ℕ) (s₁ s₂ : List ℕ) (n₁ n₂ d : ℕ) (inputs₀ before₁ before₂ rows₁ rows₂ inputs : List ℕ) (a t : ℕ) : Type 0 where
   pub long : length inputs ≡ length inputs₀
   pub long₁ : length rows₁ ≡ length before₁
   pub long₂ : length rows₂ ≡ length before₂
-  pub fronts : (i l : ℕ) → i < d - 1 → l < laneCount → lane inputs i l ≡ lane inputs₀ i l
-  pub few : a ≤ laneCount
-  pub agree : (l : ℕ) (x : List ℕ) → l < a → Front d inputs₀ l x → getD x (d - 1) 0 < t → outputOf s₁ x ≡ outputOf s₂ x
-  pub held₁ : (l : ℕ) (x : List ℕ) → 0 < t → l < laneCount → Front d inputs₀ l x → getD x (d - 1) 0 ≡ t - 1 → HeldTo s₁ x rows₁ l n₁
-  pub held₂ : (l : ℕ) (x : List ℕ) → 0 < t → l < laneCount → Front d inputs₀ l x → getD x (d - 1) 0 ≡ t - 1 → HeldTo s₂ x rows₂ l n₂
+  pub fronts : (i l : ℕ) → i < d - 1 → l < w → lane w inputs i l ≡ lane w inputs₀ i l
+  pub onGrid : LanesOnGrid w s₁ inputs
+  pub few : a ≤ w
+  pub agree : (l : ℕ) (x : List ℕ) → l < a → Front w d inputs₀ l x → getD x (d - 1) 0 < t → outputOf s₁ x ≡ outputOf s₂ x
+  pub held₁ : (l : ℕ) (x : List ℕ) → 0 < t → l < w → Front w d inputs₀ l x → getD x (d - 1) 0 ≡ t - 1 → HeldTo w s₁ x rows₁ l n₁
+  pub held₂ : (l : ℕ) (x : List ℕ) → 0 < t → l < w → Front w d inputs₀ l x → getD x (d - 1) 0 ≡ t - 1 → HeldTo w s₂ x rows₂ l n₂
 
-pub none : (s₁ s₂ : List ℕ) (n₁ n₂ d : ℕ) (inputs rows₁ rows₂ : List ℕ) → Agreed s₁ s₂ n₁ n₂ d inputs rows₁ rows₂ rows₁ rows₂ inputs laneCount 0
-none s₁ s₂ n₁ n₂ d inputs rows₁ rows₂ =
+pub none :
+    (w : ℕ) (s₁ s₂ : List ℕ) (n₁ n₂ d : ℕ) (inputs rows₁ rows₂ : List ℕ) → LanesOnGrid w s₁ inputs →
+    Agreed w s₁ s₂ n₁ n₂ d inputs rows₁ rows₂ rows₁ rows₂ inputs w 0
+none w s₁ s₂ n₁ n₂ d inputs rows₁ rows₂ g =
     record {
       long = refl;
       long₁ = refl;
       long₂ = refl;
       fronts = λ i l h g. refl;
+      onGrid = g;
       few = omega arith;
       agree = λ l x h f z. absurd (omega arith);
       held₁ = λ l x z. absurd (omega arith);
       held₂ = λ l x z. absurd (omega arith);
     }
 
+-- lanes that are not unequal are equal modulo 2^m
+lanes-equal : (w m : ℕ) (v : List ℕ) (a : ℕ) (u : List ℕ) (b l : ℕ) → unequal w m v a u b l ≡ false → lane w v a l % 2 ^ m ≡ lane w u b l % 2 ^ m
+unfolding unequal
+lanes-equal w m v a u b l e = eqb-true _ _ (not-false _ e)
+
+-- the first d of the axes as the machine holds them are the grid's
+pub axis-at :
+    {w : ℕ} {turn : Bool} {s₁ s₂ : List ℕ} {n₁ n₂ d : ℕ} {axes rows other : List ℕ} → Prepared w turn s₁ s₂ n₁ n₂ d axes rows other →
+    (i : ℕ) → i < d → getD axes i 0 ≡ getD (axesOf (sizesOf s₁)) i 0
+axis-at {d = d} {axes = axes} k i h =
+    let e : getD (take d axes) i 0 ≡ getD axes i 0 = rw getD-take in
+    sym e ∙ ap (λ us. getD us i 0) (k .grid)
+
+-- with a value of the last input below its axis, the lanes stay on the grid
+pub filled-on-grid :
+    (w : ℕ) (s : List ℕ) (d : ℕ) (inputs inputs' : List ℕ) (t : ℕ) → d ≡ sizesOf s .d → t < getD (axesOf (sizesOf s)) (d - 1) 0 →
+    Written w inputs inputs' (d - 1) (λ l. t) → LanesOnGrid w s inputs → LanesOnGrid w s inputs'
+filled-on-grid w s d inputs inputs' t e h filled g i l hi hl =
+    elim (ℕ-discrete i (d - 1)) [
+      | yes q ↦ rw (q, filled .row l hl) h
+      | no q ↦ rw (filled .others i l hl q) (g i l hi hl)
+    ]
+
 -- the input rows of a block at the value t of the last input
 module _
-    (d : ℕ) (inputs₀ inputs inputs' : List ℕ) (t : ℕ) (low : 1 ≤ d) (high : d ≤ maxInputs)
-    (fronts : (i l : ℕ) → i < d - 1 → l < laneCount → lane inputs i l ≡ lane inputs₀ i l) (filled : Written inputs inputs' (d - 1) (λ l. t))
+    (w d : ℕ) (inputs₀ inputs inputs' : List ℕ) (t : ℕ) (low : 1 ≤ d) (high : d ≤ maxInputs)
+    (fronts : (i l : ℕ) → i < d - 1 → l < w → lane w inputs i l ≡ lane w inputs₀ i l) (filled : Written w inputs inputs' (d - 1) (λ l. t))
   where
-    fronts-kept : (i l : ℕ) → i < d - 1 → l < laneCount → lane inputs' i l ≡ lane inputs₀ i l
+    fronts-kept : (i l : ℕ) → i < d - 1 → l < w → lane w inputs' i l ≡ lane w inputs₀ i l
     fronts-kept i l h g = filled .others i l g (λ e. omega arith) ∙ fronts i l h g
 
-    reads : (l : ℕ) (y : List ℕ) → l < laneCount → Front d inputs₀ l y → getD y (d - 1) 0 ≡ t → (i : ℕ) → i < d → lane inputs' i l ≡ getD y i 0
+    reads : (l : ℕ) (y : List ℕ) → l < w → Front w d inputs₀ l y → getD y (d - 1) 0 ≡ t → (i : ℕ) → i < d → lane w inputs' i l ≡ getD y i 0
     reads l y g f e i h =
         elim (ℕ-discrete i (d - 1)) [
           | yes q ↦ rw q (filled .row l g ∙ sym e)
@@ -84,19 +109,19 @@ module _
 
     -- the rows of a file that held the values at t - 1 hold those at t
     refreshed :
-        (s : List ℕ) (n : ℕ) (before after list : List ℕ) (count : ℕ) → d ≡ sizesOf s .d → Refreshed s n inputs' before after list count t →
+        (s : List ℕ) (n : ℕ) (before after list : List ℕ) (count : ℕ) → d ≡ sizesOf s .d → Refreshed w s n inputs' before after list count t →
         Rest s (d - 1) n list count →
-        ((l : ℕ) (x : List ℕ) → 0 < t → l < laneCount → Front d inputs₀ l x → getD x (d - 1) 0 ≡ t - 1 → HeldTo s x before l n) →
-        (l : ℕ) (y : List ℕ) → l < laneCount → Front d inputs₀ l y → getD y (d - 1) 0 ≡ t → HeldTo s y after l n
+        ((l : ℕ) (x : List ℕ) → 0 < t → l < w → Front w d inputs₀ l x → getD x (d - 1) 0 ≡ t - 1 → HeldTo w s x before l n) →
+        (l : ℕ) (y : List ℕ) → l < w → Front w d inputs₀ l y → getD y (d - 1) 0 ≡ t → HeldTo w s y after l n
     refreshed s n before after list count size run rest was l y g f e =
         run (d - 1) l (set (held y) (d - 1) (t - 1)) y g rest (beside y (d - 1) (t - 1)) (λ i h. reads l y g f e i (rw size h))
         (λ some. was l _ some g (λ i h. f i h ∙ sym (beside y (d - 1) (t - 1) i (λ q. omega arith))) (beside-at y (d - 1) (t - 1) (omega arith)))
 
 -- a round of the block: the last input becomes t, both files' rows are refreshed, and the first lane that differs is found
 module _
-    (s₁ s₂ : List ℕ) (n₁ n₂ d : ℕ) (axes inputs₀ before₁ before₂ : List ℕ) (rows₁ rows₂ inputs : List ℕ) (rows₁' rows₂' inputs' : List ℕ) (a t : ℕ)
-    (k : Prepared s₁ s₂ n₁ n₂ d axes rows₁' rows₂') (was : Agreed s₁ s₂ n₁ n₂ d inputs₀ before₁ before₂ rows₁ rows₂ inputs a t)
-    (filled : Written inputs inputs' (d - 1) (λ l. t))
+    (w : ℕ) (s₁ s₂ : List ℕ) (n₁ n₂ d : ℕ) (axes inputs₀ before₁ before₂ : List ℕ) (rows₁ rows₂ inputs : List ℕ) (rows₁' rows₂' inputs' : List ℕ) (a t : ℕ)
+    (k : Prepared w false s₁ s₂ n₁ n₂ d axes rows₁' rows₂') (was : Agreed w s₁ s₂ n₁ n₂ d inputs₀ before₁ before₂ rows₁ rows₂ inputs a t)
+    (filled : Written w inputs inputs' (d - 1) (λ l. t))
   where
     low : 1 ≤ d
     low = omega (arith, k .inputs, k .files .sound₁ .inputsLow)
@@ -105,17 +130,18 @@ module _
     high = omega (arith, k .inputs, k .files .sound₁ .inputsHigh)
 
     pub more :
-        (list₁ list₂ : List ℕ) (count₁ count₂ m b : ℕ) → length inputs' ≡ length inputs → length rows₁' ≡ length rows₁ → length rows₂' ≡ length rows₂ →
-        Rest s₁ (d - 1) n₁ list₁ count₁ → Rest s₂ (d - 1) n₂ list₂ count₂ → Refreshed s₁ n₁ inputs' rows₁ rows₁' list₁ count₁ t →
-        Refreshed s₂ n₂ inputs' rows₂ rows₂' list₂ count₂ t → m ≡ sizesOf s₁ .m →
-        b ≡ first (unequal m rows₁' (n₁ - 1) rows₂' (n₂ - 1)) 0 a →
-        Agreed s₁ s₂ n₁ n₂ d inputs₀ before₁ before₂ rows₁' rows₂' inputs' b (t + 1)
-    more list₁ list₂ count₁ count₂ m b long long₁ long₂ rest₁ rest₂ run₁ run₂ e found =
+        (list₁ list₂ : List ℕ) (count₁ count₂ m b : ℕ) → t < getD axes (d - 1) 0 → length inputs' ≡ length inputs → length rows₁' ≡ length rows₁ → length rows₂' ≡ length rows₂ →
+        Rest s₁ (d - 1) n₁ list₁ count₁ → Rest s₂ (d - 1) n₂ list₂ count₂ → Refreshed w s₁ n₁ inputs' rows₁ rows₁' list₁ count₁ t →
+        Refreshed w s₂ n₂ inputs' rows₂ rows₂' list₂ count₂ t → m ≡ sizesOf s₁ .m →
+        b ≡ first (unequal w m rows₁' (n₁ - 1) rows₂' (n₂ - 1)) 0 a →
+        Agreed w s₁ s₂ n₁ n₂ d inputs₀ before₁ before₂ rows₁' rows₂' inputs' b (t + 1)
+    more list₁ list₂ count₁ count₂ m b below long long₁ long₂ rest₁ rest₂ run₁ run₂ e found =
         record {
           long = long ∙ was .long;
           long₁ = long₁ ∙ was .long₁;
           long₂ = long₂ ∙ was .long₂;
-          fronts = fronts-kept d inputs₀ inputs inputs' t low high (was .fronts) filled;
+          fronts = fronts-kept w d inputs₀ inputs inputs' t low high (was .fronts) filled;
+          onGrid = filled-on-grid w s₁ d inputs inputs' t (k .inputs) (omega (arith, axis-at k (d - 1) (omega (arith, low)))) filled (was .onGrid);
           few = omega (arith, fewer, was .few);
           agree = λ l x g f h. ⊎-elim
               (λ (q : getD x (d - 1) 0 ≡ t). same l x g f q)
@@ -125,23 +151,97 @@ module _
           held₂ = λ l x some g f q. now₂ l x g f (omega arith);
         }
       where
-        now₁ : (l : ℕ) (x : List ℕ) → l < laneCount → Front d inputs₀ l x → getD x (d - 1) 0 ≡ t → HeldTo s₁ x rows₁' l n₁
+        now₁ : (l : ℕ) (x : List ℕ) → l < w → Front w d inputs₀ l x → getD x (d - 1) 0 ≡ t → HeldTo w s₁ x rows₁' l n₁
         now₁ =
-            refreshed d inputs₀ inputs inputs' t low high (was .fronts) filled s₁ n₁ rows₁ rows₁' list₁ count₁ (k .inputs) run₁ rest₁ (was .held₁)
+            refreshed w d inputs₀ inputs inputs' t low high (was .fronts) filled s₁ n₁ rows₁ rows₁' list₁ count₁ (k .inputs) run₁ rest₁ (was .held₁)
 
-        now₂ : (l : ℕ) (x : List ℕ) → l < laneCount → Front d inputs₀ l x → getD x (d - 1) 0 ≡ t → HeldTo s₂ x rows₂' l n₂
+        now₂ : (l : ℕ) (x : List ℕ) → l < w → Front w d inputs₀ l x → getD x (d - 1) 0 ≡ t → HeldTo w s₂ x rows₂' l n₂
         now₂ =
-            refreshed d inputs₀ inputs inputs' t low high (was .fronts) filled s₂ n₂ rows₂ rows₂' list₂ count₂
+            refreshed w d inputs₀ inputs inputs' t low high (was .fronts) filled s₂ n₂ rows₂ rows₂' list₂ count₂
             (k .inputs ∙ ap (λ z. z .d) (k .files .same)) run₂ rest₂ (was .held₂)
 
         fewer : b ≤ a
-        fewer = omega (arith, found, first-high (unequal m rows₁' (n₁ - 1) rows₂' (n₂ - 1)) 0 a)
+        fewer = omega (arith, found, first-high (unequal w m rows₁' (n₁ - 1) rows₂' (n₂ - 1)) 0 a)
 
-        same : (l : ℕ) (x : List ℕ) → l < b → Front d inputs₀ l x → getD x (d - 1) 0 ≡ t → outputOf s₁ x ≡ outputOf s₂ x
+        same : (l : ℕ) (x : List ℕ) → l < b → Front w d inputs₀ l x → getD x (d - 1) 0 ≡ t → outputOf s₁ x ≡ outputOf s₂ x
         same l x g f q =
-            let h : l < laneCount = omega (arith, fewer, was .few) in
+            let h : l < w = omega (arith, fewer, was .few) in
             eqb-true _ _
             (not-false _
-            (sym (lane-test k l x (now₁ l x h f q) (now₂ l x h f q))
-            ∙ first-before (unequal (sizesOf s₁ .m) rows₁' (n₁ - 1) rows₂' (n₂ - 1)) 0 a l (omega arith)
-            (omega (arith, found ∙ ap (λ j. first (unequal j rows₁' (n₁ - 1) rows₂' (n₂ - 1)) 0 a) e))))
+            (sym (lane-test k rows₁' rows₂' (n₁ - 1) (n₂ - 1) l x (shown₁ k rows₁' x l (now₁ l x h f q)) (shown₂ k rows₂' x l (now₂ l x h f q)))
+            ∙ first-before (unequal w (sizesOf s₁ .m) rows₁' (n₁ - 1) rows₂' (n₂ - 1)) 0 a l (omega arith)
+            (omega (arith, found ∙ ap (λ j. first (unequal w j rows₁' (n₁ - 1) rows₂' (n₂ - 1)) 0 a) e))))
+
+pub record Walked (w : ℕ) (s : List ℕ) (n d : ℕ) (inputs₀ before rows inputs : List ℕ) (t : ℕ) : Type 0 where
+  pub long : length inputs ≡ length inputs₀
+  pub longRows : length rows ≡ length before
+  pub fronts : (i l : ℕ) → i < d - 1 → l < w → lane w inputs i l ≡ lane w inputs₀ i l
+  pub onGrid : LanesOnGrid w s inputs
+  pub held : (l : ℕ) (x : List ℕ) → 0 < t → l < w → Front w d inputs₀ l x → getD x (d - 1) 0 ≡ t - 1 → HeldTo w s x rows l n
+
+pub walk-none : (w : ℕ) (s : List ℕ) (n d : ℕ) (inputs rows : List ℕ) → LanesOnGrid w s inputs → Walked w s n d inputs rows rows inputs 0
+walk-none w s n d inputs rows g =
+    record { long = refl; longRows = refl; fronts = λ i l h b. refl; onGrid = g; held = λ l x z. absurd (omega arith) }
+
+abbrev pub SavedTo : ℕ → List ℕ → ℕ → List ℕ → List ℕ → ℕ → ℕ → Type 0
+SavedTo w s d inputs saved r t = (l : ℕ) (x : List ℕ) → l < r → Front w d inputs l x → Last d t x → Shown w s x saved l (getD x (d - 1) 0)
+
+-- a round of a file: the last input becomes t, and the rows are refreshed
+module _
+    {w : ℕ} {s : List ℕ} {n d u : ℕ} {inputs₀ list : List ℕ} {count : ℕ} (k : AlongRow w s n d u inputs₀ list count) (sound : Accepted s)
+    {before rows inputs inputs' : List ℕ} {t : ℕ} (was : Walked w s n d inputs₀ before rows inputs t) (below : t < u)
+    (filled : Written w inputs inputs' (d - 1) (λ l. t))
+  where
+    pub walk-grid : LanesOnGrid w s inputs'
+    walk-grid = filled-on-grid w s d inputs inputs' t (k .inputCount) (omega (arith, k .axis)) filled (was .onGrid)
+
+    module _ (rows' : List ℕ) (run : Refreshed w s n inputs' rows rows' list count t) where
+      pub walk-now : (l : ℕ) (x : List ℕ) → l < w → Front w d inputs₀ l x → getD x (d - 1) 0 ≡ t → HeldTo w s x rows' l n
+      walk-now =
+          refreshed w d inputs₀ inputs inputs' t (omega (arith, k .inputCount, sound .inputsLow)) (omega (arith, k .inputCount, sound .inputsHigh))
+          (was .fronts) filled s n rows rows' list count (k .inputCount) run (k .rest) (was .held)
+
+      pub walk-more : length inputs' ≡ length inputs → length rows' ≡ length rows → Walked w s n d inputs₀ before rows' inputs' (t + 1)
+      walk-more e e' =
+          record {
+            long = e ∙ was .long;
+            longRows = e' ∙ was .longRows;
+            fronts =
+                fronts-kept w d inputs₀ inputs inputs' t (omega (arith, k .inputCount, sound .inputsLow))
+                (omega (arith, k .inputCount, sound .inputsHigh)) (was .fronts) filled;
+            onGrid = walk-grid;
+            held = λ l x some g f q. walk-now l x g f (omega arith);
+          }
+
+      now-shown : n ≡ stepCount s → (l : ℕ) (x : List ℕ) → l < w → Front w d inputs₀ l x → getD x (d - 1) 0 ≡ t → Shown w s x rows' l (n - 1)
+      now-shown e l x g f q = lane-output w s x rows' l n e (walk-now l x g f q (n - 1) (omega (arith, sound .countLow)))
+
+      -- the output row is saved
+      pub save-more :
+          (saved saved' : List ℕ) → n ≡ stepCount s → SavedTo w s d inputs₀ saved w t → Written w saved saved' t (lane w rows' (n - 1)) →
+          SavedTo w s d inputs₀ saved' w (t + 1)
+      save-more saved saved' e old w l x g f h =
+          let m = sizesOf s .m in
+          elim (ℕ-discrete (getD x (d - 1) 0) t) [
+            | yes q ↦ rw q (ap (λ v. v % 2 ^ m) (w .row l g) ∙ now-shown e l x g f q)
+            | no q ↦ ap (λ v. v % 2 ^ m) (w .others (getD x (d - 1) 0) l g q) ∙ old l x g f (omega arith)
+          ]
+
+      -- the output row is compared with the saved one
+      pub match-more :
+          (saved : List ℕ) (m a b : ℕ) → n ≡ stepCount s → m ≡ sizesOf s .m → a ≤ w → SavedTo w s d inputs₀ saved a t →
+          b ≡ first (unequal w m saved t rows' (n - 1)) 0 a → (b ≤ a) × SavedTo w s d inputs₀ saved b (t + 1)
+      match-more saved m a b e em few old found = (fewer, more)
+        where
+          fewer : b ≤ a
+          fewer = omega (arith, found, first-high (unequal w m saved t rows' (n - 1)) 0 a)
+
+          more : SavedTo w s d inputs₀ saved b (t + 1)
+          more l x g f h =
+              elim (ℕ-discrete (getD x (d - 1) 0) t) [
+                | yes q ↦
+                    let same = first-before (unequal w (sizesOf s .m) saved t rows' (n - 1)) 0 a l (omega arith)
+                    (omega (arith, found ∙ ap (λ j. first (unequal w j saved t rows' (n - 1)) 0 a) em)) in
+                    rw q (lanes-equal w (sizesOf s .m) saved t rows' (n - 1) l same ∙ now-shown e l x (omega (arith, fewer)) f q)
+                | no q ↦ old l x (omega (arith, fewer)) f (omega arith)
+              ]

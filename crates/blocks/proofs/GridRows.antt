@@ -1,16 +1,17 @@
 -- The rows of a grid: of the vector at place p, the entries before the last are the vector at place p / u of the grid without the last axis u,
--- and the last one is below u.
+-- and the last one is below u. The entries before the last are below their axes.
 -- Assumes nothing.
 use mathlib.Core.Path.{_≡_, _∙_, ap}
 use mathlib.Core.List.{List, [], _∷_, _++_}
 use Prim.Native.Nat.{ℕ, suc, _*_, _-_, _/_, _%_, _≤_, _<_}
 use native.Mathlib.Nat.{div-lt-iff-lt-mul, mod-lt}
 use native.Mathlib.Omega.{arith}
-use lib.ListN.{length, getD, take, List·getD-append}
-use lib.Seq.{getD-at, length-take-le, take-suc}
+use lib.ListN.{length, getD, take, List·getD-append, List·getD-eq-default}
+use lib.Seq.{getD-at, getD-take, length-take-le, take-suc}
 use Rattle.places.specs.Places.{size, vectorAt}
 use Rattle.places.proofs.LastAxis.{below-length, vector-snoc}
 use Rattle.places.proofs.Places.{oneToOne, rest-pos, size-snoc}
+use Rattle.vectors.proofs.Digits.{below-at}
 
 module _ (axes : List ℕ) (d : ℕ) (low : 1 ≤ d) (high : d ≤ length axes) where
   axes-snoc : take d axes ≡ take (d - 1) axes ++ (getD axes (d - 1) 0 ∷ [])
@@ -25,6 +26,24 @@ module _ (axes : List ℕ) (d : ℕ) (low : 1 ≤ d) (high : d ≤ length axes) 
   pub axis-pos : (p : ℕ) → p < size (take d axes) → 0 < getD axes (d - 1) 0
   axis-pos p h = rest-pos (size (take (d - 1) axes)) (getD axes (d - 1) 0) p (rw size-rows at h)
 
+  -- the vector at place r of the grid without the last axis
+  module _ (r : ℕ) (h : r < size (take (d - 1) axes)) where
+    length-front : length (vectorAt (take (d - 1) axes) r) ≡ d - 1
+    length-front = below-length (take (d - 1) axes) _ (oneToOne (take (d - 1) axes) .below r h) ∙ length-take-le (d - 1) axes (omega arith)
+
+    pub front-below : (i : ℕ) → i < d - 1 → getD (vectorAt (take (d - 1) axes) r) i 0 < getD axes i 0
+    front-below i g =
+        let at : getD (take (d - 1) axes) i 0 ≡ getD axes i 0 = rw getD-take in
+        omega (
+          arith,
+          at,
+          below-at (take (d - 1) axes) (vectorAt (take (d - 1) axes) r) i (oneToOne (take (d - 1) axes) .below r h)
+              (omega (arith, length-take-le (d - 1) axes (omega arith))),
+        )
+
+    pub front-end : getD (vectorAt (take (d - 1) axes) r) (d - 1) 0 ≡ 0
+    front-end = List·getD-eq-default (vectorAt (take (d - 1) axes) r) 0 {n = d - 1} (omega (arith, length-front))
+
   module _ (p : ℕ) (h : p < size (take d axes)) where
     row : p / getD axes (d - 1) 0 < size (take (d - 1) axes)
     row = div-lt-iff-lt-mul (axis-pos p h) .1 (rw size-rows at h)
@@ -32,14 +51,11 @@ module _ (axes : List ℕ) (d : ℕ) (low : 1 ≤ d) (high : d ≤ length axes) 
     abbrev front : List ℕ
     front = vectorAt (take (d - 1) axes) (p / getD axes (d - 1) 0)
 
-    front-length : length front ≡ d - 1
-    front-length = below-length (take (d - 1) axes) front (oneToOne (take (d - 1) axes) .below _ row) ∙ length-take-le (d - 1) axes (omega arith)
-
     split : vectorAt (take d axes) p ≡ front ++ (p % getD axes (d - 1) 0 ∷ [])
     split = ap (λ us. vectorAt us p) axes-snoc ∙ vector-snoc (take (d - 1) axes) (getD axes (d - 1) 0) p (rw size-rows at h)
 
     pub row-front : (i : ℕ) → i < d - 1 → getD (vectorAt (take d axes) p) i 0 ≡ getD (vectorAt (take (d - 1) axes) (p / getD axes (d - 1) 0)) i 0
-    row-front i l = ap (λ v. getD v i 0) split ∙ List·getD-append front _ 0 i (omega (arith, front-length))
+    row-front i l = ap (λ v. getD v i 0) split ∙ List·getD-append front _ 0 i (omega (arith, length-front _ row))
 
     pub row-last : getD (vectorAt (take d axes) p) (d - 1) 0 < getD axes (d - 1) 0
-    row-last = omega (arith, ap (λ v. getD v (d - 1) 0) split ∙ getD-at front _ [] 0 (d - 1) front-length, mod-lt p (axis-pos p h))
+    row-last = omega (arith, ap (λ v. getD v (d - 1) 0) split ∙ getD-at front _ [] 0 (d - 1) (length-front _ row), mod-lt p (axis-pos p h))

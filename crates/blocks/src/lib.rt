@@ -1,24 +1,23 @@
-// Two comparable files compared in blocks of 16 whole rows of the grid, a lane for each row. Along a row only the last input changes, and only
+// Two comparable files compared in blocks of 16 or 8 whole rows of the grid, a lane for each row. Along a row only the last input changes, and only
 // the steps that depend on it are computed again.
 use batches::by_batches;
 use batches::set_lanes;
 use lanes::list_dependent;
 use lanes::run_all;
 use lanes::run_listed;
+use rows::copy_row;
 use rows::fill_row;
 use rows::first_unequal;
-ghost use mathlib.Core.Bool.{false};
-ghost use mathlib.Core.List.{List};
+ghost use mathlib.Core.Bool.{true, false};
 ghost use mathlib.Core.Path.{_≡_};
 ghost use Prim.Native.Nat.{ℕ, _+_, _*_, _-_, _≤_, _<_, max};
 ghost use lib.ListN.{length, getD, take, drop};
 ghost use Rattle.batches.specs.Comparison.{outputsDiffer};
 ghost use Rattle.batches.specs.Prepared.{Prepared};
-ghost use Rattle.evaluate.specs.Evaluate.{outputOf};
-ghost use Rattle.lanes.specs.Lanes.{Reads, HeldTo, Beside, Listed, Rest, Room};
+ghost use Rattle.lanes.specs.Lanes.{Listed, Rest, Room, LanesOnGrid};
 ghost use Rattle.places.specs.Places.{size};
-ghost use Rattle.rows.specs.Rows.{laneCount, lane};
 ghost use Rattle.search.specs.Search.{first};
+ghost use Rattle.blocks.specs.Block.{Refreshed, AlongRow, OutputsSaved, Matching, Agreeing};
 
 // The rows of a file along a row of the grid: all steps at its first place, the listed ones at a later one.
 fn refresh(
@@ -29,50 +28,54 @@ fn refresh(
     list: &[usize],
     count: usize,
     t: u64,
+    w: usize,
 )
-    requires { ⌜ Room (now file) n (now inputs) (now rows) ⌝ }
+    requires { ⌜ Room w (now file) n (now inputs) (now rows) ⌝ }
     requires { ⌜ Listed n (now list) count ⌝ }
-    ensures { λ _. ⌜ ((j l : ℕ) (x y : List ℕ) → l < laneCount → Rest (now (file .entry)) j n (now (list .entry)) count → Beside j x y → Reads (now (file .entry)) (now (inputs .entry)) l y → (0 < t → HeldTo (now (file .entry)) x (now (rows .entry)) l n) → HeldTo (now (file .entry)) y (now (rows .exit)) l n) ⌝ }
+    requires { ⌜ LanesOnGrid w (now file) (now inputs) ⌝ }
+    ensures { λ _. ⌜ Refreshed w (now (file .entry)) n (now (inputs .entry)) (now (rows .entry)) (now (rows .exit)) (now (list .entry)) count t ⌝ }
 {
     if t == 0 {
-        run_all(file, n, inputs, rows);
+        run_all(file, n, inputs, rows, w);
         return;
     }
-    run_listed(file, n, inputs, rows, list, count);
+    run_listed(file, n, inputs, rows, list, count, w);
 }
 
-// How many of the first lanes agree in the outputs at every value of the last input below its axis. The input rows before the last hold the other
-// inputs of each lane.
-fn agreeing_lanes(
+// How many of the first lanes agree in the outputs at every value of the last input below its axis, each file with rows of its own. The input rows
+// before the last hold the other inputs of each lane. All lanes are on the grid.
+fn agreeing_apart(
     file1: &[u8],
     n1: usize,
-    rows1: &mut [u64],
+    rows: &mut [u64],
     list1: &[usize],
     count1: usize,
     file2: &[u8],
     n2: usize,
-    rows2: &mut [u64],
+    other: &mut [u64],
     list2: &[usize],
     count2: usize,
     axes: [u64; 8],
     d: usize,
     inputs: &mut [u64],
+    w: usize,
 ) -> usize
-    requires { ⌜ Prepared (now file1) (now file2) n1 n2 d axes (now rows1) (now rows2) ⌝ }
+    requires { ⌜ Prepared w false (now file1) (now file2) n1 n2 d axes (now rows) (now other) ⌝ }
     requires { ⌜ Listed n1 (now list1) count1 × Listed n2 (now list2) count2 ⌝ }
     requires { ⌜ Rest (now file1) (d - 1) n1 (now list1) count1 × Rest (now file2) (d - 1) n2 (now list2) count2 ⌝ }
-    requires { ⌜ laneCount * d ≤ length (now inputs) ⌝ }
-    ensures { λ r. ⌜ (r ≤ laneCount) × ((l : ℕ) (x : List ℕ) → l < r → ((i : ℕ) → i < d - 1 → lane (now (inputs .entry)) i l ≡ getD x i 0) → getD x (d - 1) 0 < getD axes (d - 1) 0 → outputOf (now (file1 .entry)) x ≡ outputOf (now (file2 .entry)) x) ⌝ }
+    requires { ⌜ w * d ≤ length (now inputs) ⌝ }
+    requires { ⌜ LanesOnGrid w (now file1) (now inputs) ⌝ }
+    ensures { λ r. ⌜ Agreeing w (now (file1 .entry)) (now (file2 .entry)) d (getD axes (d - 1) 0) (now (inputs .entry)) r ⌝ }
 {
     let u = axes[d - 1];
     let m = file1[0] as u64;
-    let mut agreeing = 16;
+    let mut agreeing = w;
     let mut t = 0;
     while t < u {
-        fill_row(inputs, d - 1, t);
-        refresh(file1, n1, inputs, rows1, list1, count1, t);
-        refresh(file2, n2, inputs, rows2, list2, count2, t);
-        agreeing = first_unequal(rows1, n1 - 1, rows2, n2 - 1, m, agreeing);
+        fill_row(inputs, d - 1, t, w);
+        refresh(file1, n1, inputs, rows, list1, count1, t, w);
+        refresh(file2, n2, inputs, other, list2, count2, t, w);
+        agreeing = first_unequal(rows, n1 - 1, other, n2 - 1, m, agreeing, w);
         if agreeing == 0 {
             return 0;
         }
@@ -81,24 +84,176 @@ fn agreeing_lanes(
     agreeing
 }
 
-// A row of the grid from `from` to `stop` before which, from `from` on, the outputs agree everywhere: the first with a difference, or one with fewer
-// than 16 rows up to `stop`. The first entries of the flags, one for each step, are overwritten.
+// The outputs of a file along rows of the grid: row t of the saved rows becomes the outputs at the value t of the last input, of which u is the axis.
+fn save_outputs(
+    file: &[u8],
+    n: usize,
+    rows: &mut [u64],
+    list: &[usize],
+    count: usize,
+    u: u64,
+    d: usize,
+    inputs: &mut [u64],
+    saved: &mut [u64],
+    w: usize,
+)
+    requires { ⌜ Room w (now file) n (now inputs) (now rows) ⌝ }
+    requires { ⌜ AlongRow w (now file) n d u (now inputs) (now list) count ⌝ }
+    requires { ⌜ w * u ≤ length (now saved) ⌝ }
+    ensures { λ _. ⌜ OutputsSaved w (now (file .entry)) d u (now (inputs .entry)) (now (inputs .exit)) (now (saved .exit)) ⌝ }
+{
+    let mut value = 0;
+    while value < u {
+        fill_row(inputs, d - 1, value, w);
+        refresh(file, n, inputs, rows, list, count, value, w);
+        copy_row(rows, n - 1, saved, value as usize, w);
+        value += 1;
+    }
+}
+
+// How many of the first lanes show the outputs of a file in the saved rows, at every value of the last input below its axis u.
+fn matching_lanes(
+    file: &[u8],
+    n: usize,
+    rows: &mut [u64],
+    list: &[usize],
+    count: usize,
+    u: u64,
+    d: usize,
+    inputs: &mut [u64],
+    saved: &[u64],
+    w: usize,
+) -> usize
+    requires { ⌜ Room w (now file) n (now inputs) (now rows) ⌝ }
+    requires { ⌜ AlongRow w (now file) n d u (now inputs) (now list) count ⌝ }
+    requires { ⌜ w * u ≤ length (now saved) ⌝ }
+    ensures { λ r. ⌜ Matching w (now (file .entry)) d u (now (inputs .entry)) (now (saved .entry)) r ⌝ }
+{
+    let m = file[0] as u64;
+    let mut matching = w;
+    let mut at = 0;
+    while at < u {
+        fill_row(inputs, d - 1, at, w);
+        refresh(file, n, inputs, rows, list, count, at, w);
+        matching = first_unequal(saved, at as usize, rows, n - 1, m, matching, w);
+        if matching == 0 {
+            return 0;
+        }
+        at += 1;
+    }
+    matching
+}
+
+// The same as agreeing_apart with the files run in turn: file 1 along the rows, its outputs saved, then file 2 in the same rows.
+fn agreeing_in_turn(
+    file1: &[u8],
+    n1: usize,
+    rows: &mut [u64],
+    list1: &[usize],
+    count1: usize,
+    file2: &[u8],
+    n2: usize,
+    other: &mut [u64],
+    list2: &[usize],
+    count2: usize,
+    axes: [u64; 8],
+    d: usize,
+    inputs: &mut [u64],
+    w: usize,
+) -> usize
+    requires { ⌜ Prepared w true (now file1) (now file2) n1 n2 d axes (now rows) (now other) ⌝ }
+    requires { ⌜ Listed n1 (now list1) count1 × Listed n2 (now list2) count2 ⌝ }
+    requires { ⌜ Rest (now file1) (d - 1) n1 (now list1) count1 × Rest (now file2) (d - 1) n2 (now list2) count2 ⌝ }
+    requires { ⌜ w * d ≤ length (now inputs) ⌝ }
+    requires { ⌜ LanesOnGrid w (now file1) (now inputs) ⌝ }
+    ensures { λ r. ⌜ Agreeing w (now (file1 .entry)) (now (file2 .entry)) d (getD axes (d - 1) 0) (now (inputs .entry)) r ⌝ }
+{
+    let u = axes[d - 1];
+    save_outputs(file1, n1, rows, list1, count1, u, d, inputs, other, w);
+    matching_lanes(file2, n2, rows, list2, count2, u, d, inputs, other, w)
+}
+
+// The same, in turn or not.
+fn agreeing_lanes(
+    file1: &[u8],
+    n1: usize,
+    rows: &mut [u64],
+    list1: &[usize],
+    count1: usize,
+    file2: &[u8],
+    n2: usize,
+    other: &mut [u64],
+    list2: &[usize],
+    count2: usize,
+    axes: [u64; 8],
+    d: usize,
+    inputs: &mut [u64],
+    turn: bool,
+    w: usize,
+) -> usize
+    requires { ⌜ Prepared w turn (now file1) (now file2) n1 n2 d axes (now rows) (now other) ⌝ }
+    requires { ⌜ Listed n1 (now list1) count1 × Listed n2 (now list2) count2 ⌝ }
+    requires { ⌜ Rest (now file1) (d - 1) n1 (now list1) count1 × Rest (now file2) (d - 1) n2 (now list2) count2 ⌝ }
+    requires { ⌜ w * d ≤ length (now inputs) ⌝ }
+    requires { ⌜ LanesOnGrid w (now file1) (now inputs) ⌝ }
+    ensures { λ r. ⌜ Agreeing w (now (file1 .entry)) (now (file2 .entry)) d (getD axes (d - 1) 0) (now (inputs .entry)) r ⌝ }
+{
+    if turn {
+        return agreeing_in_turn(
+            file1,
+            n1,
+            rows,
+            list1,
+            count1,
+            file2,
+            n2,
+            other,
+            list2,
+            count2,
+            axes,
+            d,
+            inputs,
+            w,
+        );
+    }
+    agreeing_apart(
+        file1,
+        n1,
+        rows,
+        list1,
+        count1,
+        file2,
+        n2,
+        other,
+        list2,
+        count2,
+        axes,
+        d,
+        inputs,
+        w,
+    )
+}
+
+// A row of the grid from `from` to `stop` before which, from `from` on, the outputs agree everywhere. It goes by blocks of w rows; how far it comes is
+// not promised. The first entries of the flags, one for each step, are overwritten.
 fn agreed_rows(
     file1: &[u8],
     n1: usize,
-    rows1: &mut [u64],
+    rows: &mut [u64],
     list1: &mut [usize],
     file2: &[u8],
     n2: usize,
-    rows2: &mut [u64],
+    other: &mut [u64],
     list2: &mut [usize],
     axes: [u64; 8],
     d: usize,
     from: u64,
     stop: u64,
     flags: &mut [u64],
+    turn: bool,
+    w: usize,
 ) -> u64
-    requires { ⌜ Prepared (now file1) (now file2) n1 n2 d axes (now rows1) (now rows2) ⌝ }
+    requires { ⌜ Prepared w turn (now file1) (now file2) n1 n2 d axes (now rows) (now other) ⌝ }
     requires { ⌜ (n1 ≤ length (now list1)) × (n2 ≤ length (now list2)) × (max n1 n2 ≤ length (now flags)) ⌝ }
     requires { ⌜ (from ≤ stop) × (stop * getD axes (d - 1) 0 ≤ size (take d axes)) ⌝ }
     ensures { λ r. ⌜ (from ≤ r) × (r ≤ stop) × ((p : ℕ) → from * getD axes (d - 1) 0 ≤ p → p < r * getD axes (d - 1) 0 → outputsDiffer (now (file1 .entry)) (now (file2 .entry)) p ≡ false) × (drop (max n1 n2) (now (flags .exit)) ≡ drop (max n1 n2) (now (flags .entry))) ⌝ }
@@ -106,28 +261,31 @@ fn agreed_rows(
     let count1 = list_dependent(file1, n1, d - 1, flags, list1);
     let count2 = list_dependent(file2, n2, d - 1, flags, list2);
     let mut inputs = [0u64; 128];
+    let wide = w as u64;
     let mut r = from;
-    while 16 <= stop - r {
-        set_lanes(&mut inputs, axes, d - 1, r, 16);
+    while wide <= stop - r {
+        set_lanes(&mut inputs, axes, d - 1, r, w, w);
         let l = agreeing_lanes(
             file1,
             n1,
-            rows1,
+            rows,
             list1,
             count1,
             file2,
             n2,
-            rows2,
+            other,
             list2,
             count2,
             axes,
             d,
             &mut inputs,
+            turn,
+            w,
         );
-        if l < 16 {
+        if l < w {
             return r + l as u64;
         }
-        r += 16;
+        r += wide;
     }
     r
 }
@@ -137,19 +295,21 @@ fn agreed_rows(
 pub fn by_blocks(
     file1: &[u8],
     n1: usize,
-    rows1: &mut [u64],
+    rows: &mut [u64],
     list1: &mut [usize],
     file2: &[u8],
     n2: usize,
-    rows2: &mut [u64],
+    other: &mut [u64],
     list2: &mut [usize],
     axes: [u64; 8],
     d: usize,
     from: u64,
     end: u64,
     flags: &mut [u64],
+    turn: bool,
+    w: usize,
 ) -> u64
-    requires { ⌜ Prepared (now file1) (now file2) n1 n2 d axes (now rows1) (now rows2) ⌝ }
+    requires { ⌜ Prepared w turn (now file1) (now file2) n1 n2 d axes (now rows) (now other) ⌝ }
     requires { ⌜ (n1 ≤ length (now list1)) × (n2 ≤ length (now list2)) × (max n1 n2 ≤ length (now flags)) ⌝ }
     requires { ⌜ (from < end) × (end ≤ size (take d axes)) ⌝ }
     ensures { λ r. ⌜ (r ≡ first (outputsDiffer (now (file1 .entry)) (now (file2 .entry))) from (end - from)) × (drop (max n1 n2) (now (flags .exit)) ≡ drop (max n1 n2) (now (flags .entry))) ⌝ }
@@ -157,31 +317,86 @@ pub fn by_blocks(
     let u = axes[d - 1];
     let start = from / u + 1;
     let stop = end / u;
-    if stop < 16 {
-        return by_batches(file1, n1, file2, n2, axes, d, from, end, rows1, rows2);
+    let wide = w as u64;
+    if stop < wide {
+        return by_batches(
+            file1,
+            n1,
+            file2,
+            n2,
+            axes,
+            d,
+            from,
+            end,
+            rows,
+            other,
+            turn,
+            w,
+        );
     }
-    if stop - 16 < start {
-        return by_batches(file1, n1, file2, n2, axes, d, from, end, rows1, rows2);
+    if stop - wide < start {
+        return by_batches(
+            file1,
+            n1,
+            file2,
+            n2,
+            axes,
+            d,
+            from,
+            end,
+            rows,
+            other,
+            turn,
+            w,
+        );
     }
     let head = start * u;
-    let found = by_batches(file1, n1, file2, n2, axes, d, from, head, rows1, rows2);
+    let found = by_batches(
+        file1,
+        n1,
+        file2,
+        n2,
+        axes,
+        d,
+        from,
+        head,
+        rows,
+        other,
+        turn,
+        w,
+    );
     if found < head {
         return found;
     }
     let row = agreed_rows(
         file1,
         n1,
-        rows1,
+        rows,
         list1,
         file2,
         n2,
-        rows2,
+        other,
         list2,
         axes,
         d,
         start,
         stop,
         flags,
+        turn,
+        w,
     );
-    by_batches(file1, n1, file2, n2, axes, d, row * u, end, rows1, rows2)
+    by_batches(
+        file1,
+        n1,
+        file2,
+        n2,
+        axes,
+        d,
+        row * u,
+        end,
+        rows,
+        other,
+        turn,
+        w,
+    )
 }

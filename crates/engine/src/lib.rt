@@ -8,18 +8,19 @@ use vectors::next_vector;
 use vectors::vector_at;
 ghost use mathlib.Core.Path.{_≡_};
 ghost use mathlib.Core.Bool.{not};
-ghost use Prim.Native.Nat.{_+_, _-_, _≤_, max};
+ghost use Prim.Native.Nat.{_+_, _*_, _-_, _≤_, max};
 ghost use lib.Dec.{eqb};
 ghost use lib.ListN.{length, drop};
 ghost use Rattle.evaluate.specs.Evaluate.{outputOf};
 ghost use Rattle.evaluate.specs.Run.{Ready};
 ghost use Rattle.file.specs.File.{sizesOf};
 ghost use Rattle.grid.specs.Grid.{gridSize};
+ghost use Rattle.lanes.specs.Lanes.{Width, OnGrid};
 ghost use Rattle.search.specs.Search.{first};
 ghost use Rattle.engine.specs.Engine.{outputsDiffer, largerCount, Comparable};
 ghost use Rattle.engine.specs.Span.{Span};
 
-// Whether the outputs of two accepted files, of n1 and n2 steps, differ at a vector. Past the larger of these no scratch entry is touched.
+// Whether the outputs of two accepted files, of n1 and n2 steps, differ at a vector of the grid. Past the larger of these no scratch entry is touched.
 fn differ_at(
     file1: &[u8],
     n1: usize,
@@ -30,6 +31,7 @@ fn differ_at(
 ) -> bool
     requires { ⌜ Ready (now file1) n1 (now vector) (now scratch) ⌝ }
     requires { ⌜ Ready (now file2) n2 (now vector) (now scratch) ⌝ }
+    requires { ⌜ OnGrid (now file1) (now vector) ⌝ }
     ensures { λ r. ⌜ (r ≡ not (eqb (outputOf (now (file1 .entry)) (now (vector .entry))) (outputOf (now (file2 .entry)) (now (vector .entry))))) × (drop (max n1 n2) (now (scratch .exit)) ≡ drop (max n1 n2) (now (scratch .entry))) ⌝ }
 {
     let output1 = output_at(file1, n1, vector, scratch);
@@ -65,7 +67,7 @@ fn by_places(
     p
 }
 
-// The same in lanes, for files of at most 64 steps. The rows are set up here, where lanes are really run.
+// The same in 16 lanes, for files of at most 64 steps, which have rows of their own each. The rows are set up here, where lanes are really run.
 fn in_short_lanes(
     file1: &[u8],
     n1: usize,
@@ -81,28 +83,30 @@ fn in_short_lanes(
     requires { ⌜ (n1 ≤ 64) × (n2 ≤ 64) ⌝ }
     ensures { λ r. ⌜ (r ≡ first (outputsDiffer (now (file1 .entry)) (now (file2 .entry))) from (end - from)) × (drop (max n1 n2) (now (scratch .exit)) ≡ drop (max n1 n2) (now (scratch .entry))) ⌝ }
 {
-    let mut rows1 = [0u64; 1024];
-    let mut rows2 = [0u64; 1024];
+    let mut rows = [0u64; 1024];
+    let mut other = [0u64; 1024];
     let mut list1 = [0usize; 64];
     let mut list2 = [0usize; 64];
     by_blocks(
         file1,
         n1,
-        &mut rows1,
+        &mut rows,
         &mut list1,
         file2,
         n2,
-        &mut rows2,
+        &mut other,
         &mut list2,
         axes,
         d,
         from,
         end,
         scratch,
+        false,
+        16,
     )
 }
 
-// The same in lanes, for files of at most 256 steps.
+// The same in 16 lanes, for files of at most 256 steps, which are run in turn in the same rows.
 fn in_middle_lanes(
     file1: &[u8],
     n1: usize,
@@ -118,28 +122,30 @@ fn in_middle_lanes(
     requires { ⌜ (n1 ≤ 256) × (n2 ≤ 256) ⌝ }
     ensures { λ r. ⌜ (r ≡ first (outputsDiffer (now (file1 .entry)) (now (file2 .entry))) from (end - from)) × (drop (max n1 n2) (now (scratch .exit)) ≡ drop (max n1 n2) (now (scratch .entry))) ⌝ }
 {
-    let mut rows1 = [0u64; 4096];
-    let mut rows2 = [0u64; 4096];
+    let mut rows = [0u64; 4096];
+    let mut saved = [0u64; 1056];
     let mut list1 = [0usize; 256];
     let mut list2 = [0usize; 256];
     by_blocks(
         file1,
         n1,
-        &mut rows1,
+        &mut rows,
         &mut list1,
         file2,
         n2,
-        &mut rows2,
+        &mut saved,
         &mut list2,
         axes,
         d,
         from,
         end,
         scratch,
+        true,
+        16,
     )
 }
 
-// The same in lanes, for files of any accepted length.
+// The same in w lanes, 16 or 8, for files whose steps have room in 8,192 words each, run in turn too.
 fn in_long_lanes(
     file1: &[u8],
     n1: usize,
@@ -150,28 +156,32 @@ fn in_long_lanes(
     from: u64,
     end: u64,
     scratch: &mut [u64],
+    w: usize,
 ) -> u64
     requires { ⌜ Span (now file1) (now file2) n1 n2 d axes from end (now scratch) ⌝ }
+    requires { ⌜ Width w × (w * n1 ≤ 8192) × (w * n2 ≤ 8192) ⌝ }
     ensures { λ r. ⌜ (r ≡ first (outputsDiffer (now (file1 .entry)) (now (file2 .entry))) from (end - from)) × (drop (max n1 n2) (now (scratch .exit)) ≡ drop (max n1 n2) (now (scratch .entry))) ⌝ }
 {
-    let mut rows1 = [0u64; 16384];
-    let mut rows2 = [0u64; 16384];
+    let mut rows = [0u64; 8192];
+    let mut outputs = [0u64; 1056];
     let mut list1 = [0usize; 1024];
     let mut list2 = [0usize; 1024];
     by_blocks(
         file1,
         n1,
-        &mut rows1,
+        &mut rows,
         &mut list1,
         file2,
         n2,
-        &mut rows2,
+        &mut outputs,
         &mut list2,
         axes,
         d,
         from,
         end,
         scratch,
+        true,
+        w,
     )
 }
 
@@ -211,5 +221,10 @@ pub fn first_difference(
             return in_middle_lanes(file1, n1, file2, n2, axes, d, from, end, scratch);
         }
     }
-    in_long_lanes(file1, n1, file2, n2, axes, d, from, end, scratch)
+    if n1 <= 512 {
+        if n2 <= 512 {
+            return in_long_lanes(file1, n1, file2, n2, axes, d, from, end, scratch, 16);
+        }
+    }
+    in_long_lanes(file1, n1, file2, n2, axes, d, from, end, scratch, 8)
 }

@@ -20,7 +20,7 @@ use Rattle.file.proofs.Steps.{steps-length, steps-at, step-input, step-constant
 use Rattle.rows.specs.Rows.{lane}
 use Rattle.steps.specs.Steps.{Step, stepValue, values, exact, output}
 use Rattle.steps.proofs.Values.{length-values, values-more}
-use Rattle.lanes.specs.Lanes.{valueAt, Held, Fixed}
+use Rattle.lanes.specs.Lanes.{valueAt, Held, Shown, Fixed}
 
 -- value i is the same in the list of all values and in that of the first i + 1
 module _ (ts : List Step) (x : List ℕ) where
@@ -83,10 +83,9 @@ module _ (s x : List ℕ) (k : ℕ) (h : k < stepCount s) where
       ∙ ap₂ (combined (operation s k)) (value-before _ (a .leftBefore k h low)) (value-before _ (a .rightBefore k h low))
 
 -- what a lane of the last row holds, cut to m bits, is the output
-pub lane-output :
-    (s x rows : List ℕ) (l n : ℕ) → n ≡ stepCount s → Held s x rows l (n - 1) → lane rows (n - 1) l % 2 ^ sizesOf s .m ≡ outputOf s x
+pub lane-output : (w : ℕ) (s x rows : List ℕ) (l n : ℕ) → n ≡ stepCount s → Held w s x rows l (n - 1) → Shown w s x rows l (n - 1)
 unfolding valueAt outputOf output exact
-lane-output s x rows l n e h = h ∙ rw (steps-length s, e)
+lane-output w s x rows l n e h = h ∙ rw (steps-length s, e)
 
 -- a step that is another input, a constant, or has operands that do not depend on input j does not depend on it
 module _ (s : List ℕ) (j k : ℕ) (h : k < stepCount s) where

@@ -1,4 +1,5 @@
-// The steps of an accepted file run at 16 vectors at once, a lane of the rows for each: all steps, or those alone that depend on one input.
+// The steps of an accepted file run at 16 or 8 vectors at once, a lane of the rows for each: all steps, or those alone that depend on one input. The
+// loops over the steps are called with the constants 16 and 8, so that they are compiled for each.
 use file::fields::argument;
 use file::fields::left_operand;
 use file::fields::operation;
@@ -10,67 +11,101 @@ use rows::multiply_low_rows;
 use rows::multiply_rows;
 use rows::subtract_rows;
 ghost use mathlib.Core.Bool.{true, false};
-ghost use mathlib.Core.List.{List};
 ghost use mathlib.Core.Path.{_≡_};
-ghost use Prim.Native.Nat.{ℕ, _+_, _*_, _%_, _^_, _≤_, _<_};
-ghost use lib.IntN.{ℤ};
+ghost use Prim.Native.Nat.{ℕ, _≤_, _<_};
 ghost use lib.ListN.{length, getD, drop};
-ghost use Rattle.evaluate.specs.Run.{combined};
 ghost use Rattle.file.specs.Accepted.{Accepted};
 ghost use Rattle.file.specs.File.{stepCount};
-ghost use Rattle.integers.specs.Modulo.{remainder};
-ghost use Rattle.rows.specs.Rows.{laneCount, lane};
-ghost use Rattle.lanes.specs.Lanes.{Reads, Held, HeldTo, Beside, Fixed, Listed, Rest, Room};
+ghost use Rattle.rows.specs.Rows.{Operands};
+ghost use Rattle.lanes.specs.Lanes.{Fixed, Listed, Rest, Room, LanesOnGrid, Combined, Stepped, AllRun, ListedRun};
 
 // Row k becomes the sum, difference or product of the earlier rows a and b modulo 2^m, by the operation byte 3, 4 or 5. Where m is 32 or less a
 // product is taken of the low 32 bits.
-fn combine_rows(m: u8, op: u8, rows: &mut [u64], k: usize, a: usize, b: usize)
-    requires { ⌜ (m ≤ 64) × (a < k) × (b < k) × (laneCount * k + laneCount ≤ length (now rows)) ⌝ }
-    ensures { λ _. ⌜ ((l : ℕ) (u v : ℤ) → l < laneCount → lane (now (rows .entry)) a l % 2 ^ m ≡ remainder u (2 ^ m) → lane (now (rows .entry)) b l % 2 ^ m ≡ remainder v (2 ^ m) → lane (now (rows .exit)) k l % 2 ^ m ≡ remainder (combined op u v) (2 ^ m)) × ((i l : ℕ) → l < laneCount → ¬ (i ≡ k) → lane (now (rows .exit)) i l ≡ lane (now (rows .entry)) i l) ⌝ }
+fn combine_rows(m: u8, op: u8, rows: &mut [u64], k: usize, a: usize, b: usize, w: usize)
+    requires { ⌜ m ≤ 64 ⌝ }
+    requires { ⌜ Operands w (now rows) k a b ⌝ }
+    ensures { λ _. ⌜ Combined w m op (now (rows .entry)) (now (rows .exit)) k a b ⌝ }
 {
     if op == 3 {
-        add_rows(rows, k, a, b);
+        add_rows(rows, k, a, b, w);
         return;
     }
     if op == 4 {
-        subtract_rows(rows, k, a, b);
+        subtract_rows(rows, k, a, b, w);
         return;
     }
     if m <= 32 {
-        multiply_low_rows(rows, k, a, b);
+        multiply_low_rows(rows, k, a, b, w);
         return;
     }
-    multiply_rows(rows, k, a, b);
+    multiply_rows(rows, k, a, b, w);
 }
 
 // Row k becomes the value of step k modulo 2^m, in each lane in which the rows before it hold the values of the steps before.
-fn step_row(file: &[u8], n: usize, inputs: &[u64], rows: &mut [u64], k: usize)
-    requires { ⌜ Room (now file) n (now inputs) (now rows) ⌝ }
+fn step_row(file: &[u8], n: usize, inputs: &[u64], rows: &mut [u64], k: usize, w: usize)
+    requires { ⌜ Room w (now file) n (now inputs) (now rows) ⌝ }
     requires { ⌜ k < n ⌝ }
-    ensures { λ _. ⌜ ((l : ℕ) (x : List ℕ) → l < laneCount → Reads (now (file .entry)) (now (inputs .entry)) l x → HeldTo (now (file .entry)) x (now (rows .entry)) l k → Held (now (file .entry)) x (now (rows .exit)) l k) × ((i l : ℕ) → l < laneCount → ¬ (i ≡ k) → lane (now (rows .exit)) i l ≡ lane (now (rows .entry)) i l) ⌝ }
+    requires { ⌜ LanesOnGrid w (now file) (now inputs) ⌝ }
+    ensures { λ _. ⌜ Stepped w (now (file .entry)) (now (inputs .entry)) (now (rows .entry)) (now (rows .exit)) k ⌝ }
 {
     let op = operation(file, k);
     let a = argument(file, n, k);
     if 3 <= op {
-        combine_rows(file[0], op, rows, k, left_operand(a), right_operand(a));
+        combine_rows(file[0], op, rows, k, left_operand(a), right_operand(a), w);
         return;
     }
     if op == 1 {
-        copy_row(inputs, a as usize, rows, k);
+        copy_row(inputs, a as usize, rows, k, w);
         return;
     }
-    fill_row(rows, k, a);
+    fill_row(rows, k, a, w);
 }
 
 // All rows become the values of the steps.
-pub fn run_all(file: &[u8], n: usize, inputs: &[u64], rows: &mut [u64])
-    requires { ⌜ Room (now file) n (now inputs) (now rows) ⌝ }
-    ensures { λ _. ⌜ ((l : ℕ) (x : List ℕ) → l < laneCount → Reads (now (file .entry)) (now (inputs .entry)) l x → HeldTo (now (file .entry)) x (now (rows .exit)) l n) ⌝ }
+fn all_rows(file: &[u8], n: usize, inputs: &[u64], rows: &mut [u64], w: usize)
+    requires { ⌜ Room w (now file) n (now inputs) (now rows) ⌝ }
+    requires { ⌜ LanesOnGrid w (now file) (now inputs) ⌝ }
+    ensures { λ _. ⌜ AllRun w (now (file .entry)) n (now (inputs .entry)) (now (rows .exit)) ⌝ }
 {
     let mut k = 0;
     while k < n {
-        step_row(file, n, inputs, rows, k);
+        step_row(file, n, inputs, rows, k, w);
         k += 1;
+    }
+}
+
+// All rows become the values of the steps. In every lane the vector is on the grid.
+pub fn run_all(file: &[u8], n: usize, inputs: &[u64], rows: &mut [u64], w: usize)
+    requires { ⌜ Room w (now file) n (now inputs) (now rows) ⌝ }
+    requires { ⌜ LanesOnGrid w (now file) (now inputs) ⌝ }
+    ensures { λ _. ⌜ AllRun w (now (file .entry)) n (now (inputs .entry)) (now (rows .exit)) ⌝ }
+{
+    if w == 16 {
+        all_rows(file, n, inputs, rows, 16);
+        return;
+    }
+    all_rows(file, n, inputs, rows, 8);
+}
+
+// The rows of the listed steps alone are computed again.
+fn listed_rows(
+    file: &[u8],
+    n: usize,
+    inputs: &[u64],
+    rows: &mut [u64],
+    list: &[usize],
+    count: usize,
+    w: usize,
+)
+    requires { ⌜ Room w (now file) n (now inputs) (now rows) ⌝ }
+    requires { ⌜ Listed n (now list) count ⌝ }
+    requires { ⌜ LanesOnGrid w (now file) (now inputs) ⌝ }
+    ensures { λ _. ⌜ ListedRun w (now (file .entry)) n (now (inputs .entry)) (now (rows .entry)) (now (rows .exit)) (now (list .entry)) count ⌝ }
+{
+    let mut q = 0;
+    while q < count {
+        step_row(file, n, inputs, rows, list[q], w);
+        q += 1;
     }
 }
 
@@ -83,16 +118,18 @@ pub fn run_listed(
     rows: &mut [u64],
     list: &[usize],
     count: usize,
+    w: usize,
 )
-    requires { ⌜ Room (now file) n (now inputs) (now rows) ⌝ }
+    requires { ⌜ Room w (now file) n (now inputs) (now rows) ⌝ }
     requires { ⌜ Listed n (now list) count ⌝ }
-    ensures { λ _. ⌜ ((j l : ℕ) (x y : List ℕ) → l < laneCount → Rest (now (file .entry)) j n (now (list .entry)) count → Beside j x y → Reads (now (file .entry)) (now (inputs .entry)) l y → HeldTo (now (file .entry)) x (now (rows .entry)) l n → HeldTo (now (file .entry)) y (now (rows .exit)) l n) ⌝ }
+    requires { ⌜ LanesOnGrid w (now file) (now inputs) ⌝ }
+    ensures { λ _. ⌜ ListedRun w (now (file .entry)) n (now (inputs .entry)) (now (rows .entry)) (now (rows .exit)) (now (list .entry)) count ⌝ }
 {
-    let mut q = 0;
-    while q < count {
-        step_row(file, n, inputs, rows, list[q]);
-        q += 1;
+    if w == 16 {
+        listed_rows(file, n, inputs, rows, list, count, 16);
+        return;
     }
+    listed_rows(file, n, inputs, rows, list, count, 8);
 }
 
 // Whether step k may depend on input j: it is that input, or has an operand that may. The flags of the steps before are 0 only where these

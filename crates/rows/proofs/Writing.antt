@@ -1,15 +1,17 @@
 -- A loop that writes entries of a list one after another. `Put before after at f n`: the entries at 0, .. at (n − 1) hold f 0, .. f (n − 1), and
--- every other entry is as before. put-none enters the loop, put-more makes one write. In a row of 16 lanes the entries are 16 · k + i: row-none and
+-- every other entry is as before. put-none enters the loop, put-more makes one write. In a row of w lanes the entries are w · k + i: row-none and
 -- row-more keep `Row`, row-all leaves with the row written, and row-kept reads an earlier row meanwhile.
 -- Assumes nothing.
 use mathlib.Core.List.{List}
-use mathlib.Core.Path.{_≡_, refl, sym, _∙_}
+use mathlib.Core.Path.{_≡_, refl, sym, _∙_, ap}
 use Prim.Native.Nat.{ℕ, _+_, _*_, _≤_, _<_}
+use native.Mathlib.Decide.{ℕ-discrete, decLt}
+use native.Mathlib.Nat.{mul-le-mul-left}
 use native.Mathlib.Omega.{arith}
 use borrow.Author.Count.{below-more}
 use lib.ListN.{length, getD, set, length-set}
 use lib.Seq.{getD-set-same, getD-set-other}
-use Rattle.rows.specs.Rows.{laneCount, lane, Written}
+use Rattle.rows.specs.Rows.{lane, Written}
 
 pub record Put (before after : List ℕ) (at f : ℕ → ℕ) (n : ℕ) : Type 0 where
   pub long : length after ≡ length before
@@ -32,23 +34,37 @@ put-more {before} {after} {at} {f} {n} p v inside apart e =
       old = λ j h. getD-set-other after (at n) j v 0 (λ q. h n (omega arith) (sym q)) ∙ p .old j (λ i l. h i (omega arith));
     }
 
-pub record Row (before after : List ℕ) (k : ℕ) (f : ℕ → ℕ) (l : ℕ) : Type 0 where
-  pub within : l ≤ laneCount
-  pub put : Put before after (λ i. laneCount * k + i) f l
+-- a row before another ends where that one begins, or before
+pub before-row : (w a k : ℕ) → a < k → w * a + w ≤ w * k
+before-row w a k h = omega (arith, mul-le-mul-left w h)
 
-pub row-none : (before : List ℕ) (k : ℕ) (f : ℕ → ℕ) → Row before before k f 0
-row-none before k f = record { within = omega arith; put = put-none before _ f }
+-- a lane of a row is no lane of another row
+rows-apart : (w i j k u : ℕ) → j < w → u < w → ¬ (i ≡ k) → ¬ (w * k + u ≡ w * i + j)
+rows-apart w i j k u hj hu d e =
+    elim (decLt i k) [ yes h ↦ omega (arith, before-row w i k h) | no h ↦ omega (arith, before-row w k i (omega arith)) ]
 
-module _ {before after : List ℕ} {k : ℕ} {f : ℕ → ℕ} {l : ℕ} (r : Row before after k f l) where
-  pub row-more : laneCount * k + laneCount ≤ length before → l < laneCount → (v : ℕ) → v ≡ f l → Row before (set after (laneCount * k + l) v) k f (l + 1)
+-- an entry is one lane
+pub same-lane : (w i j k u : ℕ) → j < w → u < w → w * k + u ≡ w * i + j → u ≡ j
+same-lane w i j k u hj hu e =
+    elim (ℕ-discrete i k) [ yes q ↦ omega (arith, ap (λ n. w * n) q) | no q ↦ absurd (rows-apart w i j k u hj hu q e) ]
+
+pub record Row (w : ℕ) (before after : List ℕ) (k : ℕ) (f : ℕ → ℕ) (l : ℕ) : Type 0 where
+  pub within : l ≤ w
+  pub put : Put before after (λ i. w * k + i) f l
+
+pub row-none : (w : ℕ) (before : List ℕ) (k : ℕ) (f : ℕ → ℕ) → Row w before before k f 0
+row-none w before k f = record { within = omega arith; put = put-none before _ f }
+
+module _ {w : ℕ} {before after : List ℕ} {k : ℕ} {f : ℕ → ℕ} {l : ℕ} (r : Row w before after k f l) where
+  pub row-more : w * k + w ≤ length before → l < w → (v : ℕ) → v ≡ f l → Row w before (set after (w * k + l) v) k f (l + 1)
   row-more room h v e = record { within = omega arith; put = put-more (r .put) v (omega arith) (λ i t q. omega arith) e }
 
-  pub row-all : laneCount ≤ l → Written before after k f
+  pub row-all : w ≤ l → Written w before after k f
   row-all h =
       record {
         row = λ i t. r .put .new i (omega arith);
-        others = λ i j t d. r .put .old (laneCount * i + j) (λ u w q. d (omega (arith, r .within)));
+        others = λ i j t d. r .put .old (w * i + j) (λ u g q. rows-apart w i j k u t (omega (arith, r .within)) d q);
       }
 
-  pub row-kept : (a i : ℕ) → a < k → i < laneCount → lane after a i ≡ lane before a i
-  row-kept a i h t = r .put .old (laneCount * a + i) (λ u w q. omega (arith, r .within))
+  pub row-kept : (a i : ℕ) → a < k → i < w → lane w after a i ≡ lane w before a i
+  row-kept a i h t = r .put .old (w * a + i) (λ u g q. rows-apart w a i k u t (omega (arith, r .within)) (λ e. omega arith) q)

@@ -13,7 +13,8 @@ use Rattle.places.proofs.Places.{oneToOne}
 use Rattle.sizes.specs.Sizes.{maxInputs}
 use Rattle.vectors.specs.Vectors.{held}
 
-below-at : (us x : List ℕ) (i : ℕ) → Below us x → i < length us → getD x i 0 < getD us i 0
+-- a value of a vector below the axes is below its axis
+pub below-at : (us x : List ℕ) (i : ℕ) → Below us x → i < length us → getD x i 0 < getD us i 0
 below-at [] x i b h = absurd (omega arith)
 below-at (u ∷ us) [] i b h = absurd b
 below-at (u ∷ us) (y ∷ ys) zero b h = b .0

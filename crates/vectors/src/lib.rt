@@ -25,7 +25,7 @@ pub fn vector_at(axes: [u64; 8], d: usize, p: u64) -> [u64; 8]
 }
 
 // The vector one place after v, one of the grid's vectors: from the last input backwards, an input at its last value goes to 0, and the
-// first that isn't goes up by 1. Where v is the last vector of all, every input goes to 0.
+// first that isn't goes up by 1. Where v is the last vector of all, nothing is promised of the answer.
 pub fn next_vector(axes: [u64; 8], d: usize, v: [u64; 8]) -> [u64; 8]
     requires { ⌜ d ≤ maxInputs ⌝ }
     requires { ⌜ Placed (take d axes) v ⌝ }

@@ -1,4 +1,5 @@
--- `batches::set_lanes` meets its contract. The loop's invariant: v is the vector of the last lane set, and the lanes set hold theirs.
+-- `batches::set_lanes` meets its contract. The loop's invariant: v is the vector of the last lane set, and the lanes set hold theirs,
+-- and the others are as where the loop begins.
 -- Assumes nothing.
 use mathlib.Core.Path.{_≡_, refl, _∙_, ap}
 use mathlib.Core.Logic.{⊎-elim}
@@ -10,26 +11,29 @@ use borrow.Author.Needs.{needs}
 use denote.Ref.{now}
 use lib.ListN.{length, getD, take}
 use Rattle.places.specs.Places.{vectorAt}
-use Rattle.rows.specs.Rows.{laneCount, lane}
+use Rattle.rows.specs.Rows.{lane}
+use Rattle.sizes.specs.Sizes.{maxInputs}
 use Rattle.vectors.specs.Vectors.{held}
 use Rattle.vectors.proofs.Held.{held-entry}
 use Rattle.batches.proofs.set_lanes.Statement.{statement}
 use Rattle.batches.proofs.set_lanes.Tie as tie
 
-record Columns (us : List ℕ) (d p live : ℕ) (inputs₀ inputs v : List ℕ) (l : ℕ) : Type 0 where
+record Columns (w : ℕ) (us : List ℕ) (p live : ℕ) (inputs₀ inputs v : List ℕ) (l : ℕ) : Type 0 where
   some : 1 ≤ l
   within : l ≤ live
   long : length inputs ≡ length inputs₀
   vector : v ≡ held (vectorAt us (p + (l - 1)))
-  columns : (i k : ℕ) → i < d → k < l → lane inputs i k ≡ getD (vectorAt us (p + k)) i 0
+  columns : (i k : ℕ) → i < maxInputs → k < l → lane w inputs i k ≡ getD (vectorAt us (p + k)) i 0
+  others : (i k : ℕ) → l ≤ k → k < w → lane w inputs i k ≡ lane w inputs₀ i k
 
-module _ (us : List ℕ) (d p live : ℕ) (inputs₀ inputs' v : List ℕ) (long : length inputs' ≡ length inputs₀) (room : live ≤ laneCount) where
+module _ (w : ℕ) (us : List ℕ) (p live : ℕ) (inputs₀ inputs' v : List ℕ) (long : length inputs' ≡ length inputs₀) (room : live ≤ w) where
   -- lane l is set to the vector v at place q = p + l
   more :
-      (inputs : List ℕ) (l q : ℕ) → l < live → v ≡ held (vectorAt us q) → q ≡ p + l → ((i : ℕ) → i < d → lane inputs' i l ≡ getD v i 0) →
-      ((i k : ℕ) → k < laneCount → ¬ (k ≡ l) → lane inputs' i k ≡ lane inputs i k) →
-      ((i k : ℕ) → i < d → k < l → lane inputs i k ≡ getD (vectorAt us (p + k)) i 0) → Columns us d p live inputs₀ inputs' v (l + 1)
-  more inputs l q h e at here others before =
+      (inputs : List ℕ) (l q : ℕ) → l < live → v ≡ held (vectorAt us q) → q ≡ p + l → ((i : ℕ) → i < maxInputs → lane w inputs' i l ≡ getD v i 0) →
+      ((i k : ℕ) → k < w → ¬ (k ≡ l) → lane w inputs' i k ≡ lane w inputs i k) →
+      ((i k : ℕ) → i < maxInputs → k < l → lane w inputs i k ≡ getD (vectorAt us (p + k)) i 0) →
+      ((i k : ℕ) → l + 1 ≤ k → k < w → lane w inputs' i k ≡ lane w inputs₀ i k) → Columns w us p live inputs₀ inputs' v (l + 1)
+  more inputs l q h e at here others before after =
       let back : l + 1 - 1 ≡ l = omega arith in
       record {
         some = omega arith;
@@ -40,18 +44,20 @@ module _ (us : List ℕ) (d p live : ℕ) (inputs₀ inputs' v : List ℕ) (long
             (λ (same : k ≡ l). rw (same, ← at) (here i hi ∙ ap (λ w. getD w i 0) e ∙ held-entry (vectorAt us q) i))
             (λ (less : k < l). others i k (omega arith) (λ same. omega arith) ∙ before i k hi less)
             (eq-or-lt-of-le (omega arith));
+        others = after;
       }
 
   start :
-      (inputs : List ℕ) → 1 ≤ live → v ≡ held (vectorAt us p) → ((i : ℕ) → i < d → lane inputs' i 0 ≡ getD v i 0) →
-      ((i k : ℕ) → k < laneCount → ¬ (k ≡ 0) → lane inputs' i k ≡ lane inputs i k) → Columns us d p live inputs₀ inputs' v 1
-  start inputs h e here others = more inputs 0 p h e (omega arith) here others (λ i k hi hk. absurd (omega arith))
+      (inputs : List ℕ) → 1 ≤ live → v ≡ held (vectorAt us p) → ((i : ℕ) → i < maxInputs → lane w inputs' i 0 ≡ getD v i 0) →
+      ((i k : ℕ) → k < w → ¬ (k ≡ 0) → lane w inputs' i k ≡ lane w inputs i k) →
+      ((i k : ℕ) → 1 ≤ k → k < w → lane w inputs' i k ≡ lane w inputs₀ i k) → Columns w us p live inputs₀ inputs' v 1
+  start inputs h e here others after = more inputs 0 p h e (omega arith) here others (λ i k hi hk. absurd (omega arith)) after
 
 abbrev Inv-loop : tie.InvT-loop
-Inv-loop inputs₀ axes d p live v₀ l₀ inputs v l = Columns (take d axes) d p live inputs₀ inputs v l
+Inv-loop inputs₀ axes d p live w v₀ l₀ inputs v l = Columns w (take d axes) p live inputs₀ inputs v l
 
 abbrev μ-loop : tie.MeasureT-loop
-μ-loop inputs₀ axes d p live v₀ l₀ inputs v l = live - l
+μ-loop inputs₀ axes d p live w v₀ l₀ inputs v l = live - l
 
 vector-at-requires : tie.Need-vector-at-requires Inv-loop μ-loop
 vector-at-requires c κs =
@@ -66,7 +72,7 @@ loop-holds c =
     let q = c .before .before .before .before .before .before .pre in
     let set = c .before .before .set-column .ensures in
     start _ _ _ _ _ _ _ refl (q .3) (now (c .before .before .before .before .before .before .args .inputs)) (q .2)
-    (c .before .before .before .before .vector-at .ensures) (λ i h. set .0 i (omega (arith, h, q .0))) (set .1)
+    (c .before .before .before .before .vector-at .ensures) (set .set) (set .others) (λ i k hl hk. refl)
 
 next-vector-requires : tie.Need-next-vector-requires Inv-loop μ-loop
 next-vector-requires c κs =
@@ -99,7 +105,8 @@ loop-again c =
     let l = c .before .before .before .before .before .before .loop .l in
     more _ _ _ _ _ _ _ (set .kept .0 ∙ k .long) (q .3) (c .before .before .before .before .before .before .loop .inputs) l (p + (l - 1) + 1) t
     (c .before .before .before .before .next-vector .ensures (p + (l - 1)) (omega (arith, q .4, t, k .some)) (k .vector)) (omega (arith, k .some))
-    (λ i h. set .ensures .0 i (omega (arith, h, q .0))) (set .ensures .1) (k .columns)
+    (set .ensures .set) (set .ensures .others) (k .columns)
+    (λ i j hl hj. set .ensures .others i j hj (λ same. omega (arith, hl, same)) ∙ k .others i j (omega (arith, hl)) hj)
 
 same-length : tie.Need-same-length Inv-loop μ-loop
 same-length c = search needs
@@ -107,7 +114,13 @@ same-length c = search needs
 returns : tie.Need-returns Inv-loop μ-loop
 returns c =
     let k = c .before .loop .inv in
-    λ i l hi hl. k .columns i l hi (omega (arith, c .loop-test .left))
+    let t = c .loop-test .left in
+    record {
+      set = λ i l hi hl. k .columns i l hi (omega (arith, t));
+      others =
+          λ i l low hl. k .others i l (omega (arith, low, k .within)) hl
+          ∙ c .before .before .before .before .set-column .ensures .others i l hl (λ same. omega (arith, low, k .within, k .some, same));
+    }
 
 pub set-lanes-spec : {M : Type 1} → statement M
 set-lanes-spec =

@@ -1,6 +1,6 @@
 -- `blocks::agreed_rows` meets its contract. The loop's invariant: the outputs agree at every place of the rows from `from` to before r.
 -- Assumes nothing.
-use mathlib.Core.Bool.{false, not}
+use mathlib.Core.Bool.{Bool, false, not}
 use mathlib.Core.List.{List}
 use mathlib.Core.Path.{_≡_, refl, sym, _∙_, ap}
 use Prim.Native.Nat.{ℕ, _+_, _*_, _-_, _/_, _≤_, _<_, max}
@@ -11,23 +11,26 @@ use borrow.Author.Needs.{needs}
 use borrow.Author.Tests.{eq-eqb}
 use denote.Ref.{now}
 use lib.ListN.{length, getD, take, drop}
+use Rattle.batches.specs.Batch.{LanesSet}
 use Rattle.batches.specs.Comparison.{outputsDiffer}
 use Rattle.batches.specs.Prepared.{Prepared}
-use Rattle.batches.proofs.Tests.{output-test, prepared-kept}
+use Rattle.batches.proofs.OnGrid.{grid-some}
+use Rattle.batches.proofs.Tests.{output-test, inputs-room, prepared-kept}
 use Rattle.evaluate.specs.Evaluate.{outputOf}
-use Rattle.file.specs.File.{sizesOf}
-use Rattle.grid.specs.Grid.{widthsOf, axesOf}
-use Rattle.grid.proofs.Axes.{size-least}
+use Rattle.lanes.specs.Lanes.{LanesOnGrid}
+use Rattle.lanes.proofs.Stepped.{width-most, width-least}
 use Rattle.lists.proofs.Lists.{drop-later}
 use Rattle.places.specs.Places.{size, vectorAt}
-use Rattle.rows.specs.Rows.{laneCount, lane}
-use Rattle.blocks.proofs.Along.{Front}
-use Rattle.blocks.proofs.GridRows.{size-rows, axis-pos, row-front, row-last}
+use Rattle.rows.specs.Rows.{lane}
+use Rattle.sizes.specs.Sizes.{maxInputs}
+use Rattle.blocks.specs.Block.{Front}
+use Rattle.blocks.proofs.Along.{axis-at}
+use Rattle.blocks.proofs.GridRows.{size-rows, axis-pos, front-below, front-end, row-front, row-last}
 use Rattle.blocks.proofs.agreed_rows.Statement.{statement}
 use Rattle.blocks.proofs.agreed_rows.Tie as tie
 
-record Passed (s₁ s₂ : List ℕ) (n₁ n₂ d : ℕ) (axes : List ℕ) (from stop : ℕ) (rows₁₀ rows₂₀ rows₁ rows₂ inputs : List ℕ) (r : ℕ) : Type 0 where
-  prepared : Prepared s₁ s₂ n₁ n₂ d axes rows₁ rows₂
+record Passed (w : ℕ) (turn : Bool) (s₁ s₂ : List ℕ) (n₁ n₂ d : ℕ) (axes : List ℕ) (from stop : ℕ) (rows₁₀ rows₂₀ rows₁ rows₂ inputs : List ℕ) (r : ℕ) : Type 0 where
+  prepared : Prepared w turn s₁ s₂ n₁ n₂ d axes rows₁ rows₂
   long₁ : length rows₁ ≡ length rows₁₀
   long₂ : length rows₂ ≡ length rows₂₀
   lanes : length inputs ≡ 128
@@ -38,8 +41,8 @@ record Passed (s₁ s₂ : List ℕ) (n₁ n₂ d : ℕ) (axes : List ℕ) (from
   agree : (p : ℕ) → from * getD axes (d - 1) 0 ≤ p → p < r * getD axes (d - 1) 0 → outputsDiffer s₁ s₂ p ≡ false
 
 module _
-    {s₁ s₂ : List ℕ} {n₁ n₂ d : ℕ} {axes : List ℕ} {from stop : ℕ} {rows₁₀ rows₂₀ rows₁ rows₂ inputs : List ℕ} {r : ℕ}
-    (k : Passed s₁ s₂ n₁ n₂ d axes from stop rows₁₀ rows₂₀ rows₁ rows₂ inputs r)
+    {w : ℕ} {turn : Bool} {s₁ s₂ : List ℕ} {n₁ n₂ d : ℕ} {axes : List ℕ} {from stop : ℕ} {rows₁₀ rows₂₀ rows₁ rows₂ inputs : List ℕ} {r : ℕ}
+    (k : Passed w turn s₁ s₂ n₁ n₂ d axes from stop rows₁₀ rows₂₀ rows₁ rows₂ inputs r)
   where
     abbrev u : ℕ
     u = getD axes (d - 1) 0
@@ -48,36 +51,48 @@ module _
     some = omega (arith, k .prepared .inputs, k .prepared .files .sound₁ .inputsLow)
 
     last-pos : 0 < u
-    unfolding axesOf
-    last-pos =
-        let s = k .prepared .files .sound₁ in
-        axis-pos axes d some (k .enough) 0 (rw (k .prepared .grid) (size-least (sizesOf s₁ .m) (s .outputLow) (s .outputHigh) (widthsOf (sizesOf s₁))))
+    last-pos = axis-pos axes d some (k .enough) 0 (rw (k .prepared .grid) (grid-some s₁ (k .prepared .files .sound₁)))
 
-    module _ (t : laneCount ≤ stop - r) where
-      block : (r + laneCount) * u ≤ size (take d axes)
+    module _ (t : w ≤ stop - r) where
+      block : (r + w) * u ≤ size (take d axes)
       block =
-          let within : r + laneCount ≤ stop = omega (arith, k .high) in
+          let within : r + w ≤ stop = omega (arith, k .high) in
           le-trans (mul-le-mul-right u within) (k .inside)
 
-      rows-left : r + laneCount ≤ size (take (d - 1) axes)
+      rows-left : r + w ≤ size (take (d - 1) axes)
       rows-left = le-of-mul-le-mul-right (rw (size-rows axes d some (k .enough)) at block) last-pos
 
+      -- the lanes set to the rows of the grid from r on, with 0 for the last input, are on the grid
+      on-grid : (before inputs' : List ℕ) → LanesSet w (take (d - 1) axes) r w before inputs' → LanesOnGrid w s₁ inputs'
+      on-grid before inputs' w i l h t =
+          let g : r + l < size (take (d - 1) axes) = omega (arith, rows-left) in
+          let axis = axis-at (k .prepared) i (omega (arith, h, k .prepared .inputs)) in
+          let at = w .set i l (omega (arith, h, k .prepared .files .sound₁ .inputsHigh)) t in
+          elim (decLt i (d - 1)) [
+            | yes front ↦ omega (arith, at, axis, front-below axes d some (k .enough) (r + l) g i front)
+            | no end ↦
+                let last : i ≡ d - 1 = omega (arith, h, k .prepared .inputs) in
+                let zero : getD (vectorAt (take (d - 1) axes) (r + l)) i 0 ≡ 0 = rw last (front-end axes d some (k .enough) (r + l) g) in
+                let pos : 0 < getD axes i 0 = rw last last-pos in
+                omega (arith, at, axis)
+          ]
+
       module _
-          (inputs' : List ℕ) (filled : (i l : ℕ) → i < d - 1 → l < laneCount → lane inputs' i l ≡ getD (vectorAt (take (d - 1) axes) (r + l)) i 0)
-          (a : ℕ) (few : a ≤ laneCount)
-          (agrees : (l : ℕ) (x : List ℕ) → l < a → Front d inputs' l x → getD x (d - 1) 0 < u → outputOf s₁ x ≡ outputOf s₂ x)
+          (inputs' : List ℕ) (filled : (i l : ℕ) → i < maxInputs → l < w → lane w inputs' i l ≡ getD (vectorAt (take (d - 1) axes) (r + l)) i 0)
+          (a : ℕ) (few : a ≤ w)
+          (agrees : (l : ℕ) (x : List ℕ) → l < a → Front w d inputs' l x → getD x (d - 1) 0 < u → outputOf s₁ x ≡ outputOf s₂ x)
         where
           -- a place of the block is in the row of lane p / u - r
           place : (p : ℕ) → r * u ≤ p → p < (r + a) * u → outputsDiffer s₁ s₂ p ≡ false
           place p low high =
-              let part : r + a ≤ r + laneCount = omega arith in
+              let part : r + a ≤ r + w = omega arith in
               let h : p < size (take d axes) = omega (arith, block, mul-le-mul-right u part) in
               let above : r ≤ p / u = le-div-iff-mul-le last-pos .1 low in
               let below : p / u < r + a = div-lt-iff-lt-mul last-pos .1 high in
               let l : p / u - r < a = omega arith in
               let e : r + (p / u - r) ≡ p / u = omega arith in
-              let front : Front d inputs' (p / u - r) (vectorAt (take d axes) p) =
-              λ i g. filled i (p / u - r) g (omega arith) ∙ ap (λ q. getD (vectorAt (take (d - 1) axes) q) i 0) e ∙ sym (row-front axes d some (k .enough) p h i g) in
+              let front : Front w d inputs' (p / u - r) (vectorAt (take d axes) p) =
+              λ i g. filled i (p / u - r) (omega (arith, g, k .prepared .inputs, k .prepared .files .sound₁ .inputsHigh)) (omega arith) ∙ ap (λ q. getD (vectorAt (take (d - 1) axes) q) i 0) e ∙ sym (row-front axes d some (k .enough) p h i g) in
               let same = agrees (p / u - r) (vectorAt (take d axes) p) l front (row-last axes d some (k .enough) p h) in
               sym (output-test s₁ s₂ p (k .prepared .files .same)) ∙ ap not (eq-eqb _ _ (rw (k .prepared .grid) at same))
 
@@ -86,9 +101,9 @@ module _
 
           more :
               (rows₁' rows₂' inputs'' : List ℕ) → length rows₁' ≡ length rows₁ → length rows₂' ≡ length rows₂ → length inputs'' ≡ 128 →
-              laneCount ≤ a → Passed s₁ s₂ n₁ n₂ d axes from stop rows₁₀ rows₂₀ rows₁' rows₂' inputs'' (r + laneCount)
+              w ≤ a → Passed w turn s₁ s₂ n₁ n₂ d axes from stop rows₁₀ rows₂₀ rows₁' rows₂' inputs'' (r + w)
           more rows₁' rows₂' inputs'' e₁ e₂ e₃ all =
-              let e : a ≡ laneCount = omega arith in
+              let e : a ≡ w = omega arith in
               record {
                 prepared = prepared-kept (k .prepared) rows₁' rows₂' e₁ e₂;
                 long₁ = e₁ ∙ k .long₁;
@@ -102,11 +117,11 @@ module _
               }
 
 abbrev Inv-loop : tie.InvT-loop
-Inv-loop file1 n1 rows1₀ list1 file2 n2 rows2₀ list2 axes d from stop flags count1 count2 inputs₀ r₀ rows1 rows2 inputs r =
-    Passed file1 file2 n1 n2 d axes from stop rows1₀ rows2₀ rows1 rows2 inputs r
+Inv-loop file1 n1 rows1₀ list1 file2 n2 rows2₀ list2 axes d from stop flags turn w count1 count2 inputs₀ wide r₀ rows1 rows2 inputs r =
+    Passed w turn file1 file2 n1 n2 d axes from stop rows1₀ rows2₀ rows1 rows2 inputs r
 
 abbrev μ-loop : tie.MeasureT-loop
-μ-loop file1 n1 rows1₀ list1 file2 n2 rows2₀ list2 axes d from stop flags count1 count2 inputs₀ r₀ rows1 rows2 inputs r = stop - r
+μ-loop file1 n1 rows1₀ list1 file2 n2 rows2₀ list2 axes d from stop flags turn w count1 count2 inputs₀ wide r₀ rows1 rows2 inputs r = stop - r
 
 -- the places: the entry, the calls that list the steps, the loop's head, and the call that sets the lanes
 abbrev entry : tie.After-list-dependent Inv-loop μ-loop → tie.Start Inv-loop μ-loop
@@ -193,7 +208,7 @@ set-lanes-requires c κs =
     let k = c .before .before .loop .inv in
     let e = k .prepared .inputs in
     let few = k .prepared .files .sound₁ .inputsHigh in
-    (omega (arith, e, few), omega (arith, e, few, k .lanes), omega arith, omega arith, rows-left k (c .before .loop-test .taken))
+    (omega (arith, e, few), omega (arith, width-most (k .prepared .width), k .lanes), omega (arith, width-least (k .prepared .width)), omega arith, rows-left k (c .before .loop-test .taken))
 
 slice-aggregate-agreeing-lanes : tie.Need-slice-aggregate-agreeing-lanes Inv-loop μ-loop
 slice-aggregate-agreeing-lanes c =
@@ -207,8 +222,8 @@ agreeing-lanes-requires c κs =
     let k = h .loop .inv in
     let l₁ = first (second h) .list-dependent .ensures in
     let l₂ = second h .list-dependent2 .ensures in
-    let few = k .prepared .files .sound₁ .inputsHigh in
-    (k .prepared, ((l₁ .0, l₂ .0), ((l₁ .1, l₂ .1), omega (arith, s .set-lanes .kept .0, k .lanes, k .prepared .inputs, few))))
+    let grid = on-grid k (s .before .before .loop-test .taken) _ _ (s .set-lanes .ensures) in
+    (k .prepared, ((l₁ .0, l₂ .0), ((l₁ .1, l₂ .1), (inputs-room (k .prepared) (s .set-lanes .last .0) (omega (arith, s .set-lanes .kept .0, k .lanes, width-most (k .prepared .width))), grid))))
 
 add-result : tie.Need-add-result Inv-loop μ-loop
 add-result c =
@@ -244,7 +259,7 @@ returns c =
     let k = head s .loop .inv in (
       omega (arith, k .low),
       omega (arith, k .high, t, c .if1 .taken),
-      passed k t (s .set-lanes .last .0) (s .set-lanes .ensures) _ (block .ensures .0) (block .ensures .1),
+      passed k t (s .set-lanes .last .0) (s .set-lanes .ensures .set) _ (block .ensures .few) (block .ensures .agree),
       flags-kept (second (head s)),
     )
 
@@ -254,7 +269,9 @@ add-r c =
     omega (arith, s .before .before .loop-test .taken, entry (first (second (head s))) .fits .stop .fits)
 
 loop-less : tie.Need-loop-less Inv-loop μ-loop
-loop-less c = omega (arith, lanes (c .before .before .before .before .before .before) .before .before .loop-test .taken)
+loop-less c =
+    let s = lanes (c .before .before .before .before .before .before) in
+    omega (arith, s .before .before .loop-test .taken, width-least (head s .loop .inv .prepared .width))
 
 loop-again : tie.Need-loop-again Inv-loop μ-loop
 loop-again c =
@@ -262,7 +279,7 @@ loop-again c =
     let k = head s .loop .inv in
     let set = s .set-lanes in
     let block = c .before .before .before .before .before .before .agreeing-lanes in
-    more k (s .before .before .loop-test .taken) (set .last .0) (set .ensures) _ (block .ensures .0) (block .ensures .1) _ _ _ (block .kept .1 .1 .0)
+    more k (s .before .before .loop-test .taken) (set .last .0) (set .ensures .set) _ (block .ensures .few) (block .ensures .agree) _ _ _ (block .kept .1 .1 .0)
     (block .kept .1 .1 .1 .1 .1 .1 .1 .0) (block .kept .1 .1 .1 .1 .1 .1 .1 .1 .1 .1 .1 .1 .0 ∙ set .kept .0 ∙ k .lanes) (c .if1 .left)
 
 same-length-6 : tie.Need-same-length-6 Inv-loop μ-loop

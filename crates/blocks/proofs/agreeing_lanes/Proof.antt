@@ -1,196 +1,53 @@
--- `blocks::agreeing_lanes` meets its contract. The loop's invariant is `Agreed`: in the agreeing lanes the outputs agree at every value of the last
--- input below t, and the rows hold the values at t - 1.
+-- `blocks::agreeing_lanes` meets its contract, in turn or not.
 -- Assumes nothing.
-use mathlib.Core.Path.{refl, _∙_}
-use Prim.Native.Nat.{_-_}
-use native.Mathlib.Omega.{arith}
 use borrow.Author.Needs.{needs}
-use denote.Ref.{now}
-use lib.ListN.{getD}
-use mir.Syntax.{w64}
-use mir.Val.{Fits}
-use Rattle.batches.proofs.Tests.{room₁, room₂, prepared-kept}
-use Rattle.file.specs.File.{sizesOf}
-use Rattle.blocks.proofs.Along.{Agreed, none, more}
 use Rattle.blocks.proofs.agreeing_lanes.Statement.{statement}
 use Rattle.blocks.proofs.agreeing_lanes.Tie as tie
 
-abbrev Inv-loop : tie.InvT-loop
-Inv-loop file1 n1 rows1₀ list1 count1 file2 n2 rows2₀ list2 count2 d inputs₀ u m agreeing₀ t₀ rows1 rows2 inputs agreeing t =
-    Agreed file1 file2 n1 n2 d inputs₀ rows1₀ rows2₀ rows1 rows2 inputs agreeing t
+agreeing-in-turn-requires : tie.Need-agreeing-in-turn-requires
+agreeing-in-turn-requires c κs =
+    let q = c .before .before .before .before .before .before .before .before .before .before .before .pre in
+    (rw (c .before .before .before .if1 .taken) at (q .0), q .1)
 
-abbrev μ-loop : tie.MeasureT-loop
-μ-loop file1 n1 rows1₀ list1 count1 file2 n2 rows2₀ list2 count2 d inputs₀ u m agreeing₀ t₀ rows1 rows2 inputs agreeing t = u - t
+same-length : tie.Need-same-length
+same-length c = search needs
 
--- the places: the entry, the loop's head, and the calls of a round
-abbrev entry : tie.At-loop Inv-loop μ-loop → tie.Start Inv-loop μ-loop
-entry c = c .before .before .before .before .before .before .before .before .before
+same-length-2 : tie.Need-same-length-2
+same-length-2 c = search needs
 
-abbrev head : tie.After-fill-row Inv-loop μ-loop → tie.At-loop Inv-loop μ-loop
-head c = c .before .before .before
+same-length-3 : tie.Need-same-length-3
+same-length-3 c = search needs
 
-abbrev filled : tie.After-refresh Inv-loop μ-loop → tie.After-fill-row Inv-loop μ-loop
-filled c = c .before .before .before .before .before
+returns : tie.Need-returns
+returns c = search needs
 
-abbrev first : tie.After-refresh2 Inv-loop μ-loop → tie.After-refresh Inv-loop μ-loop
-first c = c .before .before .before .before .before
+agreeing-apart-requires : tie.Need-agreeing-apart-requires
+agreeing-apart-requires c κs =
+    let q = c .before .before .before .before .before .before .before .before .before .before .before .pre in
+    (rw (c .before .before .before .if1 .left) at (q .0), q .1)
 
-axis-fits : (c : tie.Start Inv-loop μ-loop) → Fits w64 (getD (c .args .t11) (c .args .d - 1) 0)
-axis-fits c = search needs
+same-length-4 : tie.Need-same-length-4
+same-length-4 c = search needs
 
-sub-u : tie.Need-sub-u Inv-loop μ-loop
-sub-u c =
-    let k = c .before .before .before .before .before .before .before .pre .0 in
-    omega (arith, k .inputs, k .files .sound₁ .inputsLow)
+same-length-5 : tie.Need-same-length-5
+same-length-5 c = search needs
 
-mul-u : tie.Need-mul-u Inv-loop μ-loop
-mul-u c =
-    let k = c .before .before .before .before .before .before .before .pre .0 in
-    omega (arith, k .inputs, k .files .sound₁ .inputsHigh)
+same-length-6 : tie.Need-same-length-6
+same-length-6 c = search needs
 
-array-read-u : tie.Need-array-read-u Inv-loop μ-loop
-array-read-u c =
-    let k = c .before .before .before .before .before .before .before .pre .0 in
-    omega (arith, k .inputs, k .files .sound₁ .inputsLow, k .files .sound₁ .inputsHigh)
-
-shared-slice-read-m : tie.Need-shared-slice-read-m Inv-loop μ-loop
-shared-slice-read-m c = omega (arith, c .before .before .before .before .before .before .before .before .pre .0 .files .sound₁ .long)
-
-cast-m : tie.Need-cast-m Inv-loop μ-loop
-cast-m c = omega (arith, c .shared-slice-known5 .given 0)
-
-loop-holds : tie.Need-loop-holds Inv-loop μ-loop
-loop-holds c = none _ _ _ _ _ _ _ _
-
-sub-fill-row : tie.Need-sub-fill-row Inv-loop μ-loop
-sub-fill-row c =
-    let k = entry (c .before .before) .pre .0 in
-    omega (arith, k .inputs, k .files .sound₁ .inputsLow)
-
-fill-row-requires : tie.Need-fill-row-requires Inv-loop μ-loop
-fill-row-requires c κs =
-    let q = entry (c .before .before) .pre in
-    omega (arith, c .before .before .loop .inv .long, q .0 .files .sound₁ .inputsLow, q .0 .inputs, q .1 .1 .1)
-
-refresh-requires : tie.Need-refresh-requires Inv-loop μ-loop
-refresh-requires c κs =
-    let f = c .before .before .before .before in
-    let h = head f in
-    let q = entry h .pre in
-    let inv = h .loop .inv in
-    (room₁ (prepared-kept (q .0) _ (h .loop .rows2) (inv .long₁) (inv .long₂)) _ (omega (arith, q .1 .1 .1, inv .long, f .fill-row .kept .0)), q .1 .0 .0)
-
-refresh-requires-2 : tie.Need-refresh-requires-2 Inv-loop μ-loop
-refresh-requires-2 c κs =
-    let f = filled (c .before .before .before .before) in
-    let h = head f in
-    let q = entry h .pre in
-    let inv = h .loop .inv in
-    (room₂ (prepared-kept (q .0) (h .loop .rows1) _ (inv .long₁) (inv .long₂)) _ (omega (arith, q .1 .1 .1, inv .long, f .fill-row .kept .0)), q .1 .0 .1)
-
-sub-first-unequal : tie.Need-sub-first-unequal Inv-loop μ-loop
-sub-first-unequal c =
-    let k = entry (head (filled (first (c .before .before .before)))) .pre .0 in
-    omega (arith, k .count₁, k .files .sound₁ .countLow)
-
-sub-first-unequal-2 : tie.Need-sub-first-unequal-2 Inv-loop μ-loop
-sub-first-unequal-2 c =
-    let k = entry (head (filled (first (c .before .before .before .before)))) .pre .0 in
-    omega (arith, k .count₂, k .files .sound₂ .countLow)
-
-first-unequal-requires : tie.Need-first-unequal-requires Inv-loop μ-loop
-first-unequal-requires c κs =
-    let run₂ = c .before .before .before .before in
-    let run₁ = first run₂ in
-    let h = head (filled run₁) in
-    let k = entry h .pre .0 in
-    let inv = h .loop .inv in (
-      omega (arith, k .count₁, k .files .sound₁ .countLow, k .room₁, inv .long₁, run₁ .refresh .kept .1 .1 .1 .0),
-      omega (arith, k .count₂, k .files .sound₂ .countLow, k .room₂, inv .long₂, run₂ .refresh2 .kept .1 .1 .1 .0),
-      inv .few,
-    )
-
-same-length : tie.Need-same-length Inv-loop μ-loop
-same-length c =
-    let r = first (c .before .before .before .before .before .before) in
-    r .refresh .kept .1 .1 .1 .0 ∙ head (filled r) .loop .inv .long₁
-
-same-length-2 : tie.Need-same-length-2 Inv-loop μ-loop
-same-length-2 c =
-    let r = c .before .before .before .before .before .before in
-    r .refresh2 .kept .1 .1 .1 .0 ∙ head (filled (first r)) .loop .inv .long₂
-
-same-length-3 : tie.Need-same-length-3 Inv-loop μ-loop
-same-length-3 c =
-    let f = filled (first (c .before .before .before .before .before .before)) in
-    f .fill-row .kept .0 ∙ head f .loop .inv .long
-
-returns : tie.Need-returns Inv-loop μ-loop
-returns c = (omega arith, λ l x h. absurd (omega arith))
-
-add-t : tie.Need-add-t Inv-loop μ-loop
-add-t c =
-    let f = filled (first (c .before .before .before .before .before .before)) in
-    omega (arith, axis-fits (entry (head f)) .fits, f .before .before .loop-test .taken)
-
-loop-less : tie.Need-loop-less Inv-loop μ-loop
-loop-less c = omega (arith, filled (first (c .before .before .before .before .before .before)) .before .before .loop-test .taken)
-
-loop-again : tie.Need-loop-again Inv-loop μ-loop
-unfolding sizesOf
-loop-again c =
-    let f = filled (first (c .before .before .before .before .before .before)) in
-    let e = entry (head f) in
-    let q = e .pre in
-    let inv = head f .loop .inv in
-    let run₁ = first (c .before .before .before .before .before .before) .refresh in
-    let run₂ = c .before .before .before .before .before .before .refresh2 in
-    let long₁ = run₁ .kept .1 .1 .1 .0 in
-    let long₂ = run₂ .kept .1 .1 .1 .0 in
-    more _ _ _ _ _ _ _ _ _ _ _ _ _ _ _ _ _
-    (prepared-kept (q .0) _ _ (long₁ ∙ inv .long₁) (long₂ ∙ inv .long₂)) inv (f .fill-row .ensures) (now (e .args .list1)) (now (e .args .list2)) _ _ _ _
-    (f .fill-row .kept .0) long₁ long₂ (q .1 .1 .0 .0) (q .1 .1 .0 .1) (run₁ .ensures) (run₂ .ensures) refl (c .before .first-unequal .ensures)
-
-same-length-4 : tie.Need-same-length-4 Inv-loop μ-loop
-same-length-4 c = c .before .loop .inv .long₁
-
-same-length-5 : tie.Need-same-length-5 Inv-loop μ-loop
-same-length-5 c = c .before .loop .inv .long₂
-
-same-length-6 : tie.Need-same-length-6 Inv-loop μ-loop
-same-length-6 c = c .before .loop .inv .long
-
-returns-2 : tie.Need-returns-2 Inv-loop μ-loop
-returns-2 c =
-    let k = c .before .loop .inv in
-    (k .few, λ l x h f less. k .agree l x h f (omega (arith, c .loop-test .left)))
+returns-2 : tie.Need-returns-2
+returns-2 c = search needs
 
 pub agreeing-lanes-spec : {M : Type 1} → statement M
 agreeing-lanes-spec =
     tie.close
     (tie.spec
-    Inv-loop
-    μ-loop
-    sub-u
-    mul-u
-    array-read-u
-    shared-slice-read-m
-    cast-m
-    loop-holds
-    sub-fill-row
-    fill-row-requires
-    refresh-requires
-    refresh-requires-2
-    sub-first-unequal
-    sub-first-unequal-2
-    first-unequal-requires
+    agreeing-in-turn-requires
     same-length
     same-length-2
     same-length-3
     returns
-    add-t
-    loop-less
-    loop-again
+    agreeing-apart-requires
     same-length-4
     same-length-5
     same-length-6

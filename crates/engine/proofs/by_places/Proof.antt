@@ -10,13 +10,16 @@ use native.Mathlib.Omega.{arith}
 use borrow.Author.Needs.{needs}
 use lib.Dec.{eqb}
 use lib.ListN.{length, take, drop}
+use Rattle.batches.proofs.OnGrid.{place-on-grid}
 use Rattle.evaluate.specs.Evaluate.{outputOf}
 use Rattle.evaluate.specs.Run.{Ready}
+use Rattle.lanes.specs.Lanes.{OnGrid}
 use Rattle.places.specs.Places.{size, vectorAt}
 use Rattle.search.specs.Search.{first}
 use Rattle.search.proofs.Search.{first-here, first-step, first-end}
 use Rattle.sizes.specs.Sizes.{maxInputs}
 use Rattle.vectors.specs.Vectors.{held, Placed}
+use Rattle.vectors.proofs.Held.{held-entry}
 use Rattle.engine.specs.Engine.{outputsDiffer}
 use Rattle.engine.specs.Span.{Span}
 use Rattle.engine.proofs.Outputs.{test-held}
@@ -60,6 +63,11 @@ module _
 
       placed : Placed (take d axes) v
       placed = record { place = p; inside = omega (arith, k .span .inside); shape = k .vector t }
+
+      on-grid : OnGrid s₁ v
+      on-grid i h =
+          rw (k .vector t, k .span .grid, held-entry)
+          (place-on-grid s₁ (k .span .files .sound₁) p (omega (arith, ap size (k .span .grid), k .span .inside)) i h)
 
       -- b is the outcome of the test at this place
       module _ (b : Bool) (tested : b ≡ not (eqb (outputOf s₁ v) (outputOf s₂ v))) where
@@ -115,7 +123,7 @@ differ-at-requires : tie.Need-differ-at-requires Inv-loop μ-loop
 differ-at-requires c κs =
     let k = c .before .before .before .loop .inv in
     let t = c .before .before .loop-test .taken in
-    (ready₁ k t, ready₂ k t)
+    (ready₁ k t, (ready₂ k t, on-grid k t))
 
 same-length : tie.Need-same-length Inv-loop μ-loop
 same-length c = c .before .before .before .differ-at .kept .1 .1 .1 .1 .1 .0 ∙ c .before .before .before .before .before .before .before .loop .inv .long

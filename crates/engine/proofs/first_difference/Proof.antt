@@ -1,5 +1,6 @@
 -- `engine::first_difference` meets its contract: each way of comparing answers for the span from `from` to `from + count`.
 -- Assumes nothing.
+use mathlib.Core.Logic.{inl, inr}
 use mathlib.Core.Path.{_≡_, refl, sym, _∙_, ap}
 use mathlib.Core.List.{List}
 use Prim.Native.Nat.{ℕ, _+_, _-_, max}
@@ -90,14 +91,25 @@ returns-4 : tie.Need-returns-4
 returns-4 c = answered (read (c .before .before .before .before .before .before .before .before)) _ _ _ refl (c .before .before .in-middle-lanes .ensures)
 
 in-long-lanes-requires : tie.Need-in-long-lanes-requires
-in-long-lanes-requires c κs = read (c .before .before .before .before)
+in-long-lanes-requires c κs =
+    (read (c .before .before .before .before .before .before), (inl refl, omega (arith, c .before .before .if7 .taken), omega (arith, c .before .if8 .taken)))
 
 same-length-4 : tie.Need-same-length-4
 same-length-4 c = search needs
 
 returns-5 : tie.Need-returns-5
-returns-5 c =
-    answered (read (c .before .before .before .before .before .before .before)) _ _ _ refl (c .before .before .in-long-lanes .ensures)
+returns-5 c = answered (read (c .before .before .before .before .before .before .before .before .before)) _ _ _ refl (c .before .before .in-long-lanes .ensures)
+
+in-long-lanes-requires-2 : tie.Need-in-long-lanes-requires-2
+in-long-lanes-requires-2 c κs =
+    let k = read (c .before .before .before .before .before) in
+    (k, (inr refl, omega (arith, k .count₁, k .files .sound₁ .countHigh), omega (arith, k .count₂, k .files .sound₂ .countHigh)))
+
+same-length-5 : tie.Need-same-length-5
+same-length-5 c = search needs
+
+returns-6 : tie.Need-returns-6
+returns-6 c = answered (read (c .before .before .before .before .before .before .before .before)) _ _ _ refl (c .before .before .in-long-lanes2 .ensures)
 
 pub first-difference-spec : {M : Type 1} → statement M
 first-difference-spec =
@@ -121,4 +133,7 @@ first-difference-spec =
     returns-4
     in-long-lanes-requires
     same-length-4
-    returns-5)
+    returns-5
+    in-long-lanes-requires-2
+    same-length-5
+    returns-6)

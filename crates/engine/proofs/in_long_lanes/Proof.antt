@@ -2,7 +2,7 @@
 -- Assumes nothing.
 use native.Mathlib.Omega.{arith}
 use borrow.Author.Needs.{needs}
-use Rattle.engine.proofs.Prepared.{in-lanes}
+use Rattle.engine.proofs.Prepared.{in-turn}
 use Rattle.engine.proofs.in_long_lanes.Statement.{statement}
 use Rattle.engine.proofs.in_long_lanes.Tie as tie
 
@@ -21,8 +21,12 @@ slice-aggregate-by-blocks-4 c = search needs
 by-blocks-requires : tie.Need-by-blocks-requires
 by-blocks-requires c κs =
     let q = c .before .before .before .before .before .before .before .before .pre in
-    let k = q in
-    (in-lanes k 1024 _ _ (omega (arith, q .count₁, q .files .sound₁ .countHigh)) (omega (arith, q .count₂, q .files .sound₂ .countHigh)) (omega arith) (omega arith), ((omega (arith, q .count₁, q .files .sound₁ .countHigh), omega (arith, q .count₂, q .files .sound₂ .countHigh), k .room), (k .some, k .inside)))
+    let k = q .0 in
+    let few₁ = k .files .sound₁ .countHigh in
+    let few₂ = k .files .sound₂ .countHigh in (
+      in-turn k _ _ _ (q .1 .0) (q .1 .1) (q .1 .2) (omega arith),
+      ((omega (arith, k .count₁, few₁), omega (arith, k .count₂, few₂), k .room), (k .some, k .inside)),
+    )
 
 same-length : tie.Need-same-length
 same-length c = search needs

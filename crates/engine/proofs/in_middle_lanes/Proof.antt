@@ -1,8 +1,10 @@
 -- `engine::in_middle_lanes` meets its contract: the rows that it sets up have room for the files' steps.
 -- Assumes nothing.
+use mathlib.Core.Logic.{inl}
+use mathlib.Core.Path.{refl}
 use native.Mathlib.Omega.{arith}
 use borrow.Author.Needs.{needs}
-use Rattle.engine.proofs.Prepared.{in-lanes}
+use Rattle.engine.proofs.Prepared.{in-turn}
 use Rattle.engine.proofs.in_middle_lanes.Statement.{statement}
 use Rattle.engine.proofs.in_middle_lanes.Tie as tie
 
@@ -22,7 +24,7 @@ by-blocks-requires : tie.Need-by-blocks-requires
 by-blocks-requires c κs =
     let q = c .before .before .before .before .before .before .before .before .pre in
     let k = q .0 in
-    (in-lanes k 256 _ _ (q .1 .0) (q .1 .1) (omega arith) (omega arith), ((q .1 .0, q .1 .1, k .room), (k .some, k .inside)))
+    (in-turn k 16 _ _ (inl refl) (omega (arith, q .1 .0)) (omega (arith, q .1 .1)) (omega arith), ((q .1 .0, q .1 .1, k .room), (k .some, k .inside)))
 
 same-length : tie.Need-same-length
 same-length c = search needs

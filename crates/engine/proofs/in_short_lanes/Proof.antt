@@ -2,7 +2,7 @@
 -- Assumes nothing.
 use native.Mathlib.Omega.{arith}
 use borrow.Author.Needs.{needs}
-use Rattle.engine.proofs.Prepared.{in-lanes}
+use Rattle.engine.proofs.Prepared.{apart}
 use Rattle.engine.proofs.in_short_lanes.Statement.{statement}
 use Rattle.engine.proofs.in_short_lanes.Tie as tie
 
@@ -22,7 +22,7 @@ by-blocks-requires : tie.Need-by-blocks-requires
 by-blocks-requires c κs =
     let q = c .before .before .before .before .before .before .before .before .pre in
     let k = q .0 in
-    (in-lanes k 64 _ _ (q .1 .0) (q .1 .1) (omega arith) (omega arith), ((q .1 .0, q .1 .1, k .room), (k .some, k .inside)))
+    (apart k 64 _ _ (q .1 .0) (q .1 .1) (omega arith) (omega arith), ((q .1 .0, q .1 .1, k .room), (k .some, k .inside)))
 
 same-length : tie.Need-same-length
 same-length c = search needs

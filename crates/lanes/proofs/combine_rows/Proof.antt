@@ -20,11 +20,12 @@ returns : tie.Need-returns
 unfolding combined
 returns c =
     let m = c .before .before .before .before .before .before .args .m in
-    let written = c .before .before .add-rows .ensures in (
-      λ l u v h p q. rw (eq-eqb _ 3 (c .before .before .before .before .if1 .taken))
-          (ap (λ w. w % 2 ^ m) (written .row l h) ∙ residue-sum m _ _ u v p q (c .before .before .before .before .before .before .pre .0)),
-      written .others,
-    )
+    let written = c .before .before .add-rows .ensures in
+    record {
+      row = λ l u v h p q. rw (eq-eqb _ 3 (c .before .before .before .before .if1 .taken))
+          (ap (λ w. w % 2 ^ m) (written .row l h) ∙ residue-sum m _ _ u v p q (c .before .before .before .before .before .before .pre .0));
+      others = written .others;
+    }
 
 subtract-rows-requires : tie.Need-subtract-rows-requires
 subtract-rows-requires c κs = search needs
@@ -36,11 +37,12 @@ returns-2 : tie.Need-returns-2
 unfolding combined
 returns-2 c =
     let m = c .before .before .before .before .before .before .before .args .m in
-    let written = c .before .before .subtract-rows .ensures in (
-      λ l u v h p q. rw (ne-eqb _ 3 (c .before .before .before .before .before .if1 .left), eq-eqb _ 4 (c .before .before .before .before .if2 .taken))
-          (ap (λ w. w % 2 ^ m) (written .row l h) ∙ residue-difference m _ _ u v p q (c .before .before .before .before .before .before .before .pre .0)),
-      written .others,
-    )
+    let written = c .before .before .subtract-rows .ensures in
+    record {
+      row = λ l u v h p q. rw (ne-eqb _ 3 (c .before .before .before .before .before .if1 .left), eq-eqb _ 4 (c .before .before .before .before .if2 .taken))
+          (ap (λ w. w % 2 ^ m) (written .row l h) ∙ residue-difference m _ _ u v p q (c .before .before .before .before .before .before .before .pre .0));
+      others = written .others;
+    }
 
 multiply-low-rows-requires : tie.Need-multiply-low-rows-requires
 multiply-low-rows-requires c κs = search needs
@@ -52,11 +54,12 @@ returns-3 : tie.Need-returns-3
 unfolding combined
 returns-3 c =
     let m = c .before .before .before .before .before .before .before .before .args .m in
-    let written = c .before .before .multiply-low-rows .ensures in (
-      λ l u v h p q. rw (ne-eqb _ 3 (c .before .before .before .before .before .before .if1 .left), ne-eqb _ 4 (c .before .before .before .before .before .if2 .left))
-          (ap (λ w. w % 2 ^ m) (written .row l h) ∙ residue-low-product m _ _ u v p q (c .before .before .before .before .if3 .taken)),
-      written .others,
-    )
+    let written = c .before .before .multiply-low-rows .ensures in
+    record {
+      row = λ l u v h p q. rw (ne-eqb _ 3 (c .before .before .before .before .before .before .if1 .left), ne-eqb _ 4 (c .before .before .before .before .before .if2 .left))
+          (ap (λ w. w % 2 ^ m) (written .row l h) ∙ residue-low-product m _ _ u v p q (c .before .before .before .before .if3 .taken));
+      others = written .others;
+    }
 
 multiply-rows-requires : tie.Need-multiply-rows-requires
 multiply-rows-requires c κs = search needs
@@ -68,11 +71,12 @@ returns-4 : tie.Need-returns-4
 unfolding combined
 returns-4 c =
     let m = c .before .before .before .before .before .before .before .before .args .m in
-    let written = c .before .before .multiply-rows .ensures in (
-      λ l u v h p q. rw (ne-eqb _ 3 (c .before .before .before .before .before .before .if1 .left), ne-eqb _ 4 (c .before .before .before .before .before .if2 .left))
-          (ap (λ w. w % 2 ^ m) (written .row l h) ∙ residue-product m _ _ u v p q (c .before .before .before .before .before .before .before .before .pre .0)),
-      written .others,
-    )
+    let written = c .before .before .multiply-rows .ensures in
+    record {
+      row = λ l u v h p q. rw (ne-eqb _ 3 (c .before .before .before .before .before .before .if1 .left), ne-eqb _ 4 (c .before .before .before .before .before .if2 .left))
+          (ap (λ w. w % 2 ^ m) (written .row l h) ∙ residue-product m _ _ u v p q (c .before .before .before .before .before .before .before .before .pre .0));
+      others = written .others;
+    }
 
 pub combine-rows-spec : {M : Type 1} → statement M
 combine-rows-spec =

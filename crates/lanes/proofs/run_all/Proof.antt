@@ -1,78 +1,31 @@
--- `lanes::run_all` meets its contract. The loop's invariant: in each lane the first k rows hold the values of the first k steps.
+-- `lanes::run_all` meets its contract: the rows have 16 lanes or 8.
 -- Assumes nothing.
-use mathlib.Core.List.{List}
-use mathlib.Core.Path.{_≡_, refl, _∙_}
-use Prim.Native.Nat.{ℕ, _+_, _-_, _≤_, _<_}
-use native.Mathlib.Omega.{arith}
-use borrow.Author.Count.{below-none, below-more}
 use borrow.Author.Needs.{needs}
-use lib.ListN.{length}
-use Rattle.rows.specs.Rows.{laneCount}
-use Rattle.lanes.specs.Lanes.{Reads, HeldTo}
-use Rattle.lanes.proofs.Stepped.{Stepped, held-kept, room-kept}
+use Rattle.lanes.proofs.Stepped.{width-narrow}
 use Rattle.lanes.proofs.run_all.Statement.{statement}
 use Rattle.lanes.proofs.run_all.Tie as tie
 
-record Run (s : List ℕ) (n : ℕ) (inputs rows₀ rows : List ℕ) (k : ℕ) : Type 0 where
-  within : k ≤ n
-  long : length rows ≡ length rows₀
-  held : (l : ℕ) (x : List ℕ) → l < laneCount → Reads s inputs l x → HeldTo s x rows l k
+all-rows-requires : tie.Need-all-rows-requires
+all-rows-requires c κs = rw (c .before .if1 .taken) at (c .before .before .before .before .before .pre)
 
-more :
-    (s : List ℕ) (n : ℕ) (inputs rows₀ rows after : List ℕ) (k : ℕ) → Run s n inputs rows₀ rows k → k < n → length after ≡ length rows →
-    Stepped s inputs rows after k → Run s n inputs rows₀ after (k + 1)
-more s n inputs rows₀ rows after k r t e w =
-    record {
-      within = omega arith;
-      long = e ∙ r .long;
-      held =
-          λ l x b reads. below-more _ k
-          (λ i h. held-kept s x rows after l i (w .1 i l b (λ (q : i ≡ k). omega arith)) (r .held l x b reads i h))
-          (w .0 l x b reads (r .held l x b reads));
-    }
+same-length : tie.Need-same-length
+same-length c = search needs
 
-abbrev Inv-loop : tie.InvT-loop
-Inv-loop file n inputs rows₀ k₀ rows k = Run file n inputs rows₀ rows k
+returns : tie.Need-returns
+returns c = rw (c .before .before .before .before .if1 .taken) (c .before .before .all-rows .ensures)
 
-abbrev μ-loop : tie.MeasureT-loop
-μ-loop file n inputs rows₀ k₀ rows k = n - k
+all-rows-requires-2 : tie.Need-all-rows-requires-2
+all-rows-requires-2 c κs =
+    let q = c .before .before .before .before .before .pre in
+    rw (width-narrow (q .0 .width) (c .before .if1 .left)) at q
 
-loop-holds : tie.Need-loop-holds Inv-loop μ-loop
-loop-holds c = record { within = omega arith; long = refl; held = λ l x b reads. below-none _ }
+same-length-2 : tie.Need-same-length-2
+same-length-2 c = search needs
 
-step-row-requires : tie.Need-step-row-requires Inv-loop μ-loop
-step-row-requires c κs = (room-kept (c .before .before .loop .inv .long) (c .before .before .before .before .before .before .pre), c .before .loop-test .taken)
-
-add-k : tie.Need-add-k Inv-loop μ-loop
-add-k c = search needs
-
-loop-less : tie.Need-loop-less Inv-loop μ-loop
-loop-less c = search needs
-
-loop-again : tie.Need-loop-again Inv-loop μ-loop
-loop-again c =
-    let called = c .before .before .step-row in
-    more _ _ _ _ _ _ _ (c .before .before .before .before .before .loop .inv) (c .before .before .before .before .loop-test .taken)
-    (called .kept .1 .1 .1 .0) (called .ensures)
-
-same-length : tie.Need-same-length Inv-loop μ-loop
-same-length c = c .before .loop .inv .long
-
-returns : tie.Need-returns Inv-loop μ-loop
-returns c =
-    let e : c .before .loop .k ≡ c .before .before .before .before .before .args .n = omega (arith, c .before .loop .inv .within) in
-    rw (← e) (c .before .loop .inv .held)
+returns-2 : tie.Need-returns-2
+returns-2 c = rw (width-narrow (c .before .before .before .before .before .before .before .before .pre .0 .width) (c .before .before .before .before .if1 .left)) (c .before .before .all-rows2 .ensures)
 
 pub run-all-spec : {M : Type 1} → statement M
 run-all-spec =
     tie.close
-    (tie.spec
-    Inv-loop
-    μ-loop
-    loop-holds
-    step-row-requires
-    add-k
-    loop-less
-    loop-again
-    same-length
-    returns)
+    (tie.spec all-rows-requires same-length returns all-rows-requires-2 same-length-2 returns-2)

@@ -3,22 +3,22 @@
 -- Assumes nothing.
 use Prim.Native.Nat.{_-_}
 use borrow.Author.Needs.{needs}
-use Rattle.rows.specs.Rows.{laneCount, lane}
+use Rattle.rows.specs.Rows.{lane}
 use Rattle.rows.proofs.Writing.{Row, row-none, row-more, row-all}
 use Rattle.rows.proofs.copy_row.Statement.{statement}
 use Rattle.rows.proofs.copy_row.Tie as tie
 
 abbrev Inv-loop : tie.InvT-loop
-Inv-loop source i rows₀ k x l₀ rows l = Row rows₀ rows k (lane source i) l
+Inv-loop source i rows₀ k w x l₀ rows l = Row w rows₀ rows k (lane w source i) l
 
 abbrev μ-loop : tie.MeasureT-loop
-μ-loop source i rows₀ k x l₀ rows l = laneCount - l
+μ-loop source i rows₀ k w x l₀ rows l = w - l
 
 row-requires : tie.Need-row-requires Inv-loop μ-loop
 row-requires c κs = search needs
 
 loop-holds : tie.Need-loop-holds Inv-loop μ-loop
-loop-holds c = row-none _ _ _
+loop-holds c = row-none _ _ _ _
 
 mul-rows : tie.Need-mul-rows Inv-loop μ-loop
 mul-rows c = search needs

@@ -3,19 +3,18 @@
 use Prim.Native.Nat.{_-_}
 use borrow.Author.Needs.{needs}
 use mathlib.Core.Path.{refl}
-use Rattle.rows.specs.Rows.{laneCount}
 use Rattle.rows.proofs.Writing.{Row, row-none, row-more, row-all}
 use Rattle.rows.proofs.fill_row.Statement.{statement}
 use Rattle.rows.proofs.fill_row.Tie as tie
 
 abbrev Inv-loop : tie.InvT-loop
-Inv-loop rows₀ k x l₀ rows l = Row rows₀ rows k (λ i. x) l
+Inv-loop rows₀ k x w l₀ rows l = Row w rows₀ rows k (λ i. x) l
 
 abbrev μ-loop : tie.MeasureT-loop
-μ-loop rows₀ k x l₀ rows l = laneCount - l
+μ-loop rows₀ k x w l₀ rows l = w - l
 
 loop-holds : tie.Need-loop-holds Inv-loop μ-loop
-loop-holds c = row-none _ _ _
+loop-holds c = row-none _ _ _ _
 
 mul-rows : tie.Need-mul-rows Inv-loop μ-loop
 mul-rows c = search needs

@@ -15,21 +15,21 @@ use Rattle.rows.proofs.first_unequal.Tie as tie
 
 -- x and y are the lanes' lowest m bits
 module _
-    (m : ℕ) (v : List ℕ) (a : ℕ) (w : List ℕ) (b l x y : ℕ) (left : x ≡ lane v a l % 2 ^ m) (right : y ≡ lane w b l % 2 ^ m)
+    (w m : ℕ) (v : List ℕ) (a : ℕ) (u : List ℕ) (b l x y : ℕ) (left : x ≡ lane w v a l % 2 ^ m) (right : y ≡ lane w u b l % 2 ^ m)
   where
-    lanes-differ : ¬ (x ≡ y) → unequal m v a w b l ≡ true
+    lanes-differ : ¬ (x ≡ y) → unequal w m v a u b l ≡ true
     unfolding unequal
     lanes-differ d = rw (← left, ← right, ne-eqb x y d)
 
-    lanes-agree : x ≡ y → unequal m v a w b l ≡ false
+    lanes-agree : x ≡ y → unequal w m v a u b l ≡ false
     unfolding unequal
     lanes-agree e = rw (← left, ← right, eq-eqb x y e)
 
 abbrev Inv-loop : tie.InvT-loop
-Inv-loop rows1 a rows2 b m live l₀ l = (l ≤ live) × (first (unequal m rows1 a rows2 b) 0 live ≡ first (unequal m rows1 a rows2 b) l (live - l))
+Inv-loop rows1 a rows2 b m live w l₀ l = (l ≤ live) × (first (unequal w m rows1 a rows2 b) 0 live ≡ first (unequal w m rows1 a rows2 b) l (live - l))
 
 abbrev μ-loop : tie.MeasureT-loop
-μ-loop rows1 a rows2 b m live l₀ l = live - l
+μ-loop rows1 a rows2 b m live w l₀ l = live - l
 
 loop-holds : tie.Need-loop-holds Inv-loop μ-loop
 loop-holds c = (omega arith, first-start _ _)
@@ -68,7 +68,7 @@ returns : tie.Need-returns Inv-loop μ-loop
 returns c =
     sym
     (c .before .before .before .before .before .before .loop .inv .1
-    ∙ first-here _ _ _ (lanes-differ _ _ _ _ _ _ _ _ (c .before .before .before .cut .ensures) (c .before .cut2 .ensures) (c .if1 .taken)))
+    ∙ first-here _ _ _ (lanes-differ _ _ _ _ _ _ _ _ _ (c .before .before .before .cut .ensures) (c .before .cut2 .ensures) (c .if1 .taken)))
 
 add-l : tie.Need-add-l Inv-loop μ-loop
 add-l c = search needs
@@ -81,7 +81,7 @@ loop-again c = (
   omega arith,
   c .before .before .before .before .before .before .loop .inv .1
       ∙ first-step _ _ _ (c .before .before .before .before .before .loop-test .taken)
-      (lanes-agree _ _ _ _ _ _ _ _ (c .before .before .before .cut .ensures) (c .before .cut2 .ensures) (c .if1 .left)),
+      (lanes-agree _ _ _ _ _ _ _ _ _ (c .before .before .before .cut .ensures) (c .before .cut2 .ensures) (c .if1 .left)),
 )
 
 returns-2 : tie.Need-returns-2 Inv-loop μ-loop

@@ -4,16 +4,16 @@ use mathlib.Core.Path.{refl}
 use Prim.Native.Nat.{_-_, _≤_}
 use native.Mathlib.Omega.{arith}
 use borrow.Author.Needs.{needs}
-use Rattle.rows.specs.Rows.{laneCount, lane}
+use Rattle.rows.specs.Rows.{lane}
 use Rattle.rows.proofs.Writing.{Put, put-none, put-more}
 use Rattle.rows.proofs.row.Statement.{statement}
 use Rattle.rows.proofs.row.Tie as tie
 
 abbrev Inv-loop : tie.InvT-loop
-Inv-loop rows k x₀ l₀ x l = (l ≤ laneCount) × Put x₀ x (λ i. i) (lane rows k) l
+Inv-loop rows k w x₀ l₀ x l = (l ≤ w) × Put x₀ x (λ i. i) (lane w rows k) l
 
 abbrev μ-loop : tie.MeasureT-loop
-μ-loop rows k x₀ l₀ x l = laneCount - l
+μ-loop rows k w x₀ l₀ x l = w - l
 
 loop-holds : tie.Need-loop-holds Inv-loop μ-loop
 loop-holds c = (omega arith, put-none _ _ _)
@@ -43,7 +43,7 @@ loop-less : tie.Need-loop-less Inv-loop μ-loop
 loop-less c = search needs
 
 loop-again : tie.Need-loop-again Inv-loop μ-loop
-loop-again c = (omega arith, put-more (c .before .before .loop .inv .1) _ (c .before .loop-test .taken) (λ i h e. omega arith) refl)
+loop-again c = (omega arith, put-more (c .before .before .loop .inv .1) _ (omega (arith, c .before .loop-test .taken, c .before .before .before .pre .0)) (λ i h e. omega arith) refl)
 
 returns : tie.Need-returns Inv-loop μ-loop
 returns c = λ i h. c .before .loop .inv .1 .new i (omega arith)

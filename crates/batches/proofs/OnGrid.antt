@@ -1,0 +1,69 @@
+-- The vectors that are run are on the grid: those at its places are, by the digits of a place, and the zeros are, since each axis is at least 1. Lanes
+-- that are set to vectors of the grid are on it, with the others on it already.
+-- Assumes nothing.
+use mathlib.Core.Bool.{Bool}
+use mathlib.Core.List.{List}
+use mathlib.Core.Path.{_≡_, refl, ap}
+use Prim.Native.Nat.{ℕ, zero, suc, _+_, _≤_, _<_}
+use native.Mathlib.Decide.{decLt}
+use native.Mathlib.Omega.{arith}
+use lib.ListN.{length, getD, take, replicate, length-map, length-take, length-drop}
+use Rattle.file.specs.Accepted.{Accepted}
+use Rattle.file.specs.File.{sizesOf}
+use Rattle.grid.specs.Grid.{widthsOf, axesOf}
+use Rattle.grid.proofs.Axes.{axes-most, size-least}
+use Rattle.lanes.specs.Lanes.{OnGrid, LanesOnGrid}
+use Rattle.places.specs.Places.{size, vectorAt}
+use Rattle.places.proofs.Places.{oneToOne}
+use Rattle.sizes.specs.declared.Sizes.{Sizes}
+use Rattle.vectors.proofs.Digits.{below-at}
+use Rattle.batches.specs.Batch.{LanesSet}
+use Rattle.batches.specs.Prepared.{maxAxis, Prepared}
+
+pub length-axes : (s : List ℕ) → Accepted s → length (axesOf (sizesOf s)) ≡ sizesOf s .d
+unfolding axesOf sizesOf
+length-axes s a = simp (length-map, length-take, length-drop) (omega (arith, a .long, a .inputsHigh))
+
+-- the grid has a vector
+pub grid-some : (s : List ℕ) → Accepted s → 0 < size (axesOf (sizesOf s))
+unfolding axesOf
+grid-some s a = size-least (sizesOf s .m) (a .outputLow) (a .outputHigh) (widthsOf (sizesOf s))
+
+-- the vector at a place
+pub place-on-grid : (s : List ℕ) → Accepted s → (p : ℕ) → p < size (axesOf (sizesOf s)) → OnGrid s (vectorAt (axesOf (sizesOf s)) p)
+place-on-grid s a p h i g =
+    below-at (axesOf (sizesOf s)) (vectorAt (axesOf (sizesOf s)) p) i (oneToOne (axesOf (sizesOf s)) .below p h) (omega (arith, length-axes s a))
+
+-- each axis is at least 1
+pub axis-some : (s : List ℕ) → Accepted s → (i : ℕ) → i < sizesOf s .d → 0 < getD (axesOf (sizesOf s)) i 0
+axis-some s a i g = omega (arith, place-on-grid s a 0 (grid-some s a) i g)
+
+-- and at most the largest
+pub axis-within : (s : List ℕ) → Accepted s → (i : ℕ) → getD (axesOf (sizesOf s)) i 0 ≤ maxAxis
+unfolding axesOf
+axis-within s a i = axes-most (sizesOf s .m) (a .outputLow) (a .outputHigh) (widthsOf (sizesOf s)) i
+
+zero-entry : (n i : ℕ) → _≡_ {A = ℕ} (getD (replicate n 0) i 0) 0
+zero-entry zero i = refl
+zero-entry (suc n) zero = refl
+zero-entry (suc n) (suc i) = zero-entry n i
+
+pub zeros-on-grid : (s : List ℕ) → Accepted s → (w n : ℕ) → LanesOnGrid w s (replicate n 0)
+zeros-on-grid s a w n i l h t = rw (zero-entry n) (axis-some s a i h)
+
+-- of two comparable files
+pub same-grid : (w : ℕ) (s₁ s₂ inputs : List ℕ) → sizesOf s₁ ≡ sizesOf s₂ → LanesOnGrid w s₁ inputs → LanesOnGrid w s₂ inputs
+same-grid w s₁ s₂ inputs e g = rw (← e) g
+
+pub lanes-on-grid :
+    {w : ℕ} {turn : Bool} {s₁ s₂ : List ℕ} {n₁ n₂ d : ℕ} {axes rows other : List ℕ} → Prepared w turn s₁ s₂ n₁ n₂ d axes rows other →
+    (p live : ℕ) (before after : List ℕ) → p + live ≤ size (take d axes) → LanesSet w (take d axes) p live before after → LanesOnGrid w s₁ before →
+    LanesOnGrid w s₁ after
+lanes-on-grid {s₁ = s₁} k p live before after inside w g i l h t =
+    elim (decLt l live) [
+      | yes set ↦
+          let place : p + l < size (axesOf (sizesOf s₁)) = omega (arith, ap size (k .grid)) in
+          rw (rw (k .grid) at (w .set i l (omega (arith, h, k .files .sound₁ .inputsHigh)) set))
+          (place-on-grid s₁ (k .files .sound₁) (p + l) place i h)
+      | no past ↦ rw (w .others i l (omega arith) t) (g i l h t)
+    ]

@@ -12,7 +12,7 @@ use Rattle.integers.specs.Modulo.{factorial}
 use Rattle.integers.proofs.Divisibility.{factorial-mod}
 use Rattle.search.specs.Search.{every}
 use Rattle.search.proofs.Search.{every-at}
-use Rattle.bound.specs.Bound.{IsBound, bounds, bound}
+use Rattle.bound.specs.Bound.{bounds, bound, LeastBound}
 
 -- 2^(k + 1) divides L! and not (L − 1)!, where L is entry k
 right : ℕ → Bool
@@ -43,9 +43,9 @@ pub bound-most : (m : ℕ) → 1 ≤ m → m ≤ 64 → bound m ≤ 66
 bound-most m low high = leb-true _ _ (bound-between m low high .1)
 
 -- the bound of m is entry m − 1
-pub isBound : (m : ℕ) → 1 ≤ m → m ≤ 64 → IsBound m (bound m)
+pub leastBound : LeastBound
 unfolding bound right
-isBound m low high = record { divides = rw power at whole; least = least }
+leastBound m low high = record { divides = rw power at whole; least = least }
   where
     power : m - 1 + 1 ≡ m
     power = omega arith

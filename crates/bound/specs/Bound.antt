@@ -1,7 +1,8 @@
 -- The bound L(m) (document 01, 'Output, grid and order'; document 002, SF).
 --   IsBound m n   n is the least natural number whose factorial is divisible by 2^m
---   bounds        L(1) to L(64). That each entry is its bound is proved in proofs/Least, by one test over the whole table
+--   bounds        L(1) to L(64)
 --   bound m       L(m), for m from 1 to 64
+--   LeastBound    L(m) is that least number, for every m from 1 to 64. Proved in proofs/Least, by one test over the whole table
 use mathlib.Core.Path.{_≡_}
 use mathlib.Core.List.{List, [], _∷_}
 use Prim.Native.Nat.{ℕ, _-_, _%_, _^_, _≤_}
@@ -21,3 +22,6 @@ bounds =
 
 unfoldable pub bound : ℕ → ℕ
 bound m = getD bounds (m - 1) 0
+
+abbrev pub LeastBound : Type 0
+LeastBound = (m : ℕ) → 1 ≤ m → m ≤ 64 → IsBound m (bound m)

@@ -82,7 +82,7 @@ module _ (s : List ℕ) where
   unfolding faultyStep faultyAt
   found-low l = step-low _ (eqb-false _ _ (not-true _ (first-found (faultyAt s) 0 (stepCount s) (omega arith))))
 
-  number-head : (headFault s ≡ 0 → ⊥) → fileNumber s ≡ headFault s
+  pub number-head : (headFault s ≡ 0 → ⊥) → fileNumber s ≡ headFault s
   unfolding fileNumber
   number-head n = simp (ne-eqb _ _ n)
 

@@ -2,5 +2,6 @@ pub mod Accepted
 pub mod Check
 pub mod File
 pub mod Headed
+pub mod Long
 pub mod Steps
 pub mod Stretch

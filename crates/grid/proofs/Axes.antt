@@ -2,11 +2,11 @@
 use mathlib.Core.Path.{_≡_}
 use mathlib.Core.Bool.{false}
 use mathlib.Core.List.{List, [], _∷_}
-use Prim.Native.Nat.{ℕ, _^_, _≤_, _<_}
+use Prim.Native.Nat.{ℕ, zero, suc, _^_, _≤_, _<_}
 use native.Mathlib.Nat.{le-trans, le-refl, mul-le-mul, pow-succ', pow-le-pow-right, min-eq-right, min-le-right, le-min, one-le-mul, one-le-pow}
 use native.Mathlib.Omega.{arith}
 use lib.Dec.{lit≤, lit<}
-use lib.ListN.{length, length-take}
+use lib.ListN.{length, getD, length-take}
 use lib.Pow.{pow-mono}
 use borrow.Author.Tests.{lt-leb}
 use Rattle.bound.specs.Axes.{axis, axes}
@@ -25,6 +25,12 @@ module _ (m : ℕ) (low : 1 ≤ m) (high : m ≤ 64) where
   pub axis-wide : (n : ℕ) → 7 ≤ n → axis m n ≡ bound m
   unfolding axis
   axis-wide n h = min-eq-right (omega (arith, bound-most m low high, pow-mono h))
+
+  -- so no axis of a grid is
+  pub axes-most : (ns : List ℕ) (i : ℕ) → getD (axes m ns) i 0 ≤ 66
+  axes-most [] i = omega arith
+  axes-most (n ∷ ns) zero = axis-most n
+  axes-most (n ∷ ns) (suc i) = axes-most ns i
 
   axis-least : (n : ℕ) → 1 ≤ axis m n
   unfolding axis

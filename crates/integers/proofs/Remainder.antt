@@ -6,7 +6,7 @@ use Prim.Native.Nat.{ℕ, suc, _+_, _*_, _-_, _/_, _%_, _<_}
 use native.Mathlib.Nat.{mod-add-div, mod-lt, mod-eq-of-lt, mul-add-mod-self-left, mul-pos}
 use native.Mathlib.Omega.{arith}
 use lib.IntN.{ℤ, pos, negsuc, _+ℤ_, _-ℤ_, _*ℤ_}
-use Rattle.integers.specs.Modulo.{Divides, remainder}
+use Rattle.integers.specs.Modulo.{Divides, remainder, Remainders}
 use Rattle.integers.proofs.Ring.{sub-push, sub-eq, sub-cancel, ring₂, ring₃, ring₄}
 use Rattle.integers.proofs.Divisibility.{divides-self, divides-add, divides-sub, divides-mul-left, divides-mul-right, divides-coarse}
 
@@ -28,6 +28,9 @@ remainder-divides (negsuc a) M h =
       quotient = negsuc (a / M);
       exact = simp sub-push (sub-eq _ _ _ _ (omega (arith, mod-add-div a M, mod-lt a h)));
     }
+
+pub remainders : Remainders
+remainders a M h = record { below = remainder-lt a M h; exact = remainder-divides a M h }
 
 -- two numbers below M that differ by a multiple of M are equal
 below-equal : (M r s : ℕ) → r < M → s < M → Divides M (pos r -ℤ pos s) → r ≡ s

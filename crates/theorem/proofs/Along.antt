@@ -12,7 +12,7 @@ use lib.Pow.{pow-pos}
 use lib.Seq.{getD-append-seam}
 use borrow.Author.Tests.{eqb-true, eqb-false}
 use Rattle.bound.specs.Bound.{bound}
-use Rattle.bound.proofs.Least.{isBound}
+use Rattle.bound.proofs.Least.{leastBound}
 use Rattle.integers.specs.Modulo.{Divides}
 use Rattle.integers.proofs.Divisibility.{divides-of-mod}
 use Rattle.integers.proofs.Remainder.{congruent→equal, equal→congruent}
@@ -101,7 +101,7 @@ pub agree-along :
 unfolding output at
 agree-along m low high ts₁ ts₂ pre post agrees x =
     congruent→equal (exact ts₁ (pre ++ x ∷ post)) (exact ts₂ (pre ++ x ∷ post)) (2 ^ m) (pow-pos m)
-    (rw (gap x) (oneVariable (2 ^ m) (bound m) (divides-of-mod (2 ^ m) _ (isBound m low high .divides)) p below x))
+    (rw (gap x) (oneVariable (2 ^ m) (bound m) (divides-of-mod (2 ^ m) _ (leastBound m low high .divides)) p below x))
   where
     p : List ℤ
     p = Newton.sub (exactPolynomial pre post ts₁) (exactPolynomial pre post ts₂)

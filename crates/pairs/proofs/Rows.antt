@@ -5,6 +5,7 @@ use mathlib.Core.Path.{_≡_, refl, ap}
 use mathlib.Core.List.{List, [], _∷_, map}
 use Prim.Native.Nat.{ℕ, zero, suc, _<_}
 use native.Mathlib.Omega.{arith}
+use lib.IntN.{pos, negsuc}
 use lib.ListN.{length, getD}
 use Rattle.bound.specs.Axes.{axis}
 use Rattle.bound.specs.Bound.{bound, bounds}
@@ -16,6 +17,7 @@ use Rattle.file.specs.Steps.{decoded, stepAt, stepsFrom, stepsOf}
 use Rattle.grid.specs.Grid.{axesOf, gridSize, tooLarge}
 use Rattle.integers.specs.Modulo.{remainder}
 use Rattle.places.specs.Places.{size, vectorAt}
+use Rattle.report.specs.Listings.{a·dp, b·dp}
 use Rattle.search.specs.Search.{first, every}
 use Rattle.sessions.specs.Calls.{answerTo, answers, vectorsRun}
 use Rattle.sessions.specs.Demand3.{start, firstPlace, stop}
@@ -25,8 +27,29 @@ use Rattle.sizes.specs.Sizes.{badOutput, badInputs, widthRule, badWidths}
 use Rattle.steps.specs.Steps.{stepValue, values, exact, output}
 use Rattle.theorem.specs.Comparison.{differsAt, firstDifference}
 use Rattle.words.specs.Bytes.{little}
-use Rattle.pairs.specs.Written.{x, number, joined, horner, bytes, operationByte, argumentOf, argumentBytes, written}
-use Rattle.pairs.specs.Pairs.{Pair, a·dp, b·dp, pairs, pairAt}
+use Rattle.pairs.specs.Written.{x, number, joined, power, bytes, operationByte, argumentOf, argumentBytes, written}
+use Rattle.pairs.specs.Pairs.{
+  Pair,
+  first-quadratic,
+  second-quadratic,
+  quartic,
+  three-factors,
+  four-factors,
+  quadratics,
+  quadratics-in-two,
+  quintic,
+  other-quintic,
+  four-factors-of-2-bits,
+  four-factors-of-3-bits,
+  three-factors-of-8-bits,
+  four-factors-of-8-bits,
+  square-of-a-bit,
+  two-inputs,
+  product,
+  pairs,
+  pairAt,
+}
+use Rattle.pairs.specs.Statement.{Computes, StarredPairs}
 use Rattle.pairs.specs.Holds.{calls, Holds}
 
 -- the opening's number, the answers and the stop: by the definitions, and as the row claims
@@ -42,7 +65,10 @@ claimed p = (0, p .answers, vectorsRun (p .answers))
 
 all-found : map found pairs ≡ map claimed pairs
 unfolding found claimed
-    pairs a·dp b·dp written argumentBytes argumentOf operationByte bytes horner joined number x
+    pairs quadratics quadratics-in-two quintic other-quintic four-factors-of-2-bits four-factors-of-3-bits
+    three-factors-of-8-bits four-factors-of-8-bits square-of-a-bit two-inputs product
+    first-quadratic second-quadratic quartic three-factors four-factors a·dp b·dp
+    written argumentBytes argumentOf operationByte bytes power joined number x
     opened noSession pairRefusal sameSizes answers answerTo continued continueRefusal stateRefusal misplaced isClosed
     advanced progress refusedAnswer plainAnswer differsAnswer outputsDiffer outputOf vectorsRun stop firstPlace
     refusalOf shownStep fileNumber headFault tooShort badOutput badInputs badCount badWidths widthRule badLength
@@ -62,8 +88,46 @@ map-at f g [] i d e l = absurd (omega arith)
 map-at f g (a ∷ rest) zero d e l = cc
 map-at f g (a ∷ rest) (suc i) d e l = map-at f g rest i d (cc) (omega arith)
 
-pub row : (i : ℕ) → i < length pairs → Holds (pairAt i)
+row : (i : ℕ) → i < length pairs → Holds (pairAt i)
 unfolding pairAt found claimed
 row i l =
     let e = map-at found claimed pairs i _ all-found l in
     record { accepted = ap (λ r. r .0) e; answered = ap (λ r. r .1) e; stopped = ap (λ r. r .2) e }
+
+-- the files of the polynomials that document 01 writes out
+computed :
+    Computes first-quadratic (pos 64 ∷ pos 192 ∷ negsuc 168 ∷ [])
+    × Computes second-quadratic (pos 192 ∷ pos 64 ∷ pos 87 ∷ [])
+    × Computes (quintic .file₁) (pos 2 ∷ pos 13 ∷ pos 0 ∷ pos 15 ∷ pos 2 ∷ pos 8 ∷ [])
+    × Computes (other-quintic .file₁) (pos 1 ∷ pos 15 ∷ pos 5 ∷ pos 1 ∷ pos 2 ∷ pos 8 ∷ [])
+    × Computes quartic (pos 1 ∷ pos 10 ∷ pos 3 ∷ pos 2 ∷ pos 8 ∷ [])
+unfolding first-quadratic second-quadratic quintic other-quintic quartic
+    written argumentBytes argumentOf operationByte bytes power joined number x
+    sizesOf stepCount operation argument little stepsOf stepsFrom stepAt decoded exact values stepValue
+computed = (refl, refl, refl, refl, refl)
+
+-- row i of the table, by its name
+pub starredPairs : StarredPairs
+unfolding pairs pairAt
+starredPairs =
+    record {
+      rows = refl;
+      count = refl;
+      first-quadratic = computed .0;
+      second-quadratic = computed .1;
+      quintic-file = computed .2;
+      other-quintic-file = computed .3;
+      quartic-file = computed .4;
+      each = row;
+      quadratics = row 0 (omega arith);
+      quadratics-in-two = row 1 (omega arith);
+      quintic = row 2 (omega arith);
+      other-quintic = row 3 (omega arith);
+      four-factors-of-2-bits = row 4 (omega arith);
+      four-factors-of-3-bits = row 5 (omega arith);
+      three-factors-of-8-bits = row 6 (omega arith);
+      four-factors-of-8-bits = row 7 (omega arith);
+      square-of-a-bit = row 8 (omega arith);
+      two-inputs = row 9 (omega arith);
+      product = row 10 (omega arith);
+    }

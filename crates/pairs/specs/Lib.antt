@@ -1,3 +1,4 @@
 pub mod Holds
 pub mod Pairs
+pub mod Statement
 pub mod Written

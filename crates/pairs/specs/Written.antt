@@ -2,7 +2,7 @@
 --   Expression            the steps of a datapath, given the number that its first step has; the last is its value
 --   x i, number c         input i, counted from 0; the constant c
 --   _⊕_, _⊖_, _⊗_         sum, difference and product of two expressions: the left one's steps, the right one's, and one more
---   polynomial c cs       the polynomial in input 0 with the coefficients c ∷ cs, the highest power first, by Horner's rule
+--   e ↑ n                 the n-th power of an expression, a product of n factors; 1 where n is 0
 --   bytes n a             the n bytes of the number a, the first weighing least
 --   operationByte t, argumentOf t
 --                         how a step is held in the two arrays
@@ -41,12 +41,14 @@ a ⊖ b = joined subtract a b
 abbrev pub _⊗_ : Expression → Expression → Expression
 a ⊗ b = joined multiply a b
 
-unfoldable pub horner : Expression → List ℕ → Expression
-horner e [] = e
-horner e (c ∷ cs) = horner (e ⊗ x 0 ⊕ number c) cs
+unfoldable pub power : Expression → ℕ → Expression
+power e zero = number 1
+power e (suc zero) = e
+power e (suc (suc n)) = power e (suc n) ⊗ e
 
-abbrev pub polynomial : ℕ → List ℕ → Expression
-polynomial c cs = horner (number c) cs
+infixl 75 _↑_
+abbrev pub _↑_ : Expression → ℕ → Expression
+e ↑ n = power e n
 
 unfoldable pub bytes : ℕ → ℕ → List ℕ
 bytes zero a = []

@@ -19,7 +19,7 @@ use Rattle.sessions.specs.declared.Answer.{Answer}
 use Rattle.sessions.specs.declared.Continued.{Continued}
 use Rattle.sessions.specs.declared.Mark.{Mark}
 use Rattle.sessions.specs.declared.Mark.the-variants.{Open, Equal, Differ}
-use Rattle.sessions.specs.declared.Outcome.the-variants.{Spent, Equivalent}
+use Rattle.sessions.specs.declared.Kind.the-variants.{Spent, Equivalent}
 use Rattle.sessions.specs.declared.Session.{Session}
 use Rattle.sessions.proofs.Pair.{cond-passed}
 

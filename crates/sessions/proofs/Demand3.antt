@@ -3,18 +3,20 @@
 -- this sum to the stop gives the verdict. The whole list starts at S = 0, below the stop. Assumes nothing.
 use mathlib.Core.Path.{_≡_, refl, sym, _∙_, ap, subst}
 use mathlib.Core.Bool.{false}
+use mathlib.Core.Logic.{_⊎_}
 use mathlib.Core.List.{List, [], _∷_, _++_}
 use Prim.Native.Nat.{ℕ, _+_, _<_, _≤_, min}
 use native.Mathlib.Nat.{add-zero, zero-add, add-assoc}
 use native.Mathlib.Decide.{decLt}
 use native.Mathlib.Omega.{arith}
-use borrow.Author.Tests.{eq-eqb}
 use Rattle.sessions.specs.Calls.{Call, answerTo, sessionAfter, answers, IsRefused, IsVerdict, acceptedBudget, budgets, vectorsRun, Each}
-use Rattle.sessions.specs.Demand3.{Allowed, stop, Finished, start, Whole, Demand3}
+use Rattle.sessions.specs.Demand3.{OwnFiles, Allowed, stop, Settled, Finished, start, Whole, Demand3}
 use Rattle.sessions.specs.Session.{pairRefusal, isRefusal, opened}
+use Rattle.sessions.specs.declared.Answer.{Answer}
 use Rattle.sessions.specs.declared.Session.{Session}
-use Rattle.sessions.proofs.Step.{mark-open, At, Stepped, stop-range, own-refused, call-step}
-use Rattle.sessions.proofs.Verdict.{grid-least, given, marked, settled}
+use Rattle.sessions.proofs.Pair.{pair-accepted}
+use Rattle.sessions.proofs.Step.{mark-open, At, Stepped, own-refused, call-step}
+use Rattle.sessions.proofs.Verdict.{stopped, given, marked, settled}
 
 -- the calls cs, from the session z that accepted budgets of S in all have led to
 record Onward (f₁ f₂ : List ℕ) (S : ℕ) (z : Session) (cs : List Call) : Type 0 where
@@ -28,6 +30,22 @@ record Onward (f₁ f₂ : List ℕ) (S : ℕ) (z : Session) (cs : List Call) : 
 allowed-before : (f₁ f₂ : List ℕ) (z : Session) (before rest : List Call) → Allowed f₁ f₂ z (before ++ rest) → Allowed f₁ f₂ z before
 allowed-before f₁ f₂ z [] rest allowed = tt
 allowed-before f₁ f₂ z (c ∷ before) rest allowed = (allowed .0, allowed-before f₁ f₂ (answerTo z c .session) before rest (allowed .1))
+
+-- and so is the call itself
+allowed-at :
+    (f₁ f₂ : List ℕ) (z : Session) (before : List Call) (c : Call) (after : List Call) → Allowed f₁ f₂ z (before ++ c ∷ after) →
+    OwnFiles f₁ f₂ c ⊎ IsRefused (answerTo (sessionAfter z before) c .answer)
+unfolding sessionAfter
+allowed-at f₁ f₂ z [] c after allowed = allowed .0
+allowed-at f₁ f₂ z (b ∷ before) c after allowed = allowed-at f₁ f₂ (answerTo z b .session) before c after (allowed .1)
+
+-- what holds of each answer holds of the one to a call of the list
+each-at :
+    (P : Answer → Type 0) (z : Session) (before : List Call) (c : Call) (after : List Call) → Each P (answers z (before ++ c ∷ after)) →
+    P (answerTo (sessionAfter z before) c .answer)
+unfolding sessionAfter answers
+each-at P z [] c after all = all .0
+each-at P z (b ∷ before) c after all = each-at P (answerTo z b .session) before c after (all .1)
 
 module _ (f₁ f₂ : List ℕ) (pair : isRefusal (pairRefusal f₁ f₂) ≡ false) where
   abbrev D : ℕ
@@ -107,7 +125,7 @@ module _ (f₁ f₂ : List ℕ) (pair : isRefusal (pairRefusal f₁ f₂) ≡ fa
       onward-call S z c cs call (onward (S + acceptedBudget z c) (answerTo z c .session) (call .next) cs (allowed .1))
 
   stop-above : 0 < D
-  stop-above = stop-range f₁ f₂ .1 (grid-least f₁ f₂ pair)
+  stop-above = stopped f₁ f₂ pair .low
 
   at-start : At f₁ f₂ 0 (start f₁ f₂)
   unfolding opened
@@ -118,6 +136,7 @@ module _ (f₁ f₂ : List ℕ) (pair : isRefusal (pairRefusal f₁ f₂) ≡ fa
       let all = onward 0 (start f₁ f₂) at-start cs allowed in
       let at = rw zero-add at (all .at) in
       record {
+        stopped = stopped f₁ f₂ pair;
         refused = λ before c after split own.
             let earlier = allowed-before f₁ f₂ (start f₁ f₂) before (c ∷ after) (subst (Allowed f₁ f₂ (start f₁ f₂)) split allowed) in
             let here = onward 0 (start f₁ f₂) at-start before earlier in
@@ -128,6 +147,55 @@ module _ (f₁ f₂ : List ℕ) (pair : isRefusal (pairRefusal f₁ f₂) ≡ fa
         finished = λ h. all .finished stop-above (omega arith);
       }
 
+  -- a call of the list that gives a verdict: the verdict is right, and the list has run to the stop
+  module _ (cs : List Call) (allowed : Allowed f₁ f₂ (start f₁ f₂) cs) (before : List Call) (c : Call) (after : List Call)
+      (split : cs ≡ before ++ c ∷ after) where
+    abbrev answer : Answer
+    answer = answerTo (sessionAfter (start f₁ f₂) before) c .answer
+
+    allowed-here : Allowed f₁ f₂ (start f₁ f₂) (before ++ c ∷ after)
+    allowed-here = subst (Allowed f₁ f₂ (start f₁ f₂)) split allowed
+
+    at-before : At f₁ f₂ (budgets (start f₁ f₂) before) (sessionAfter (start f₁ f₂) before)
+    at-before = rw zero-add at (onward 0 (start f₁ f₂) at-start before (allowed-before f₁ f₂ (start f₁ f₂) before (c ∷ after) allowed-here) .at)
+
+    here :
+        Stepped f₁ f₂ (budgets (start f₁ f₂) before)
+        (acceptedBudget (sessionAfter (start f₁ f₂) before) c)
+        (answerTo (sessionAfter (start f₁ f₂) before) c)
+    here = call-step f₁ f₂ _ _ at-before pair c (allowed-at f₁ f₂ (start f₁ f₂) before c after allowed-here)
+
+    verdict-settled : IsVerdict answer → Settled f₁ f₂ answer
+    verdict-settled v =
+        let S = budgets (start f₁ f₂) before in
+        let n = acceptedBudget (sessionAfter (start f₁ f₂) before) c in
+        elim (decLt (S + n) D) [
+          | yes l ↦ absurd (here .silent l v)
+          | no h ↦ elim (decLt S D) [
+            | yes l ↦ settled f₁ f₂ pair _ (here .verdict l (omega arith))
+            | no k ↦ absurd (here .closed (omega arith) .1 v)
+          ]
+        ]
+
+    verdict-run : IsVerdict answer → vectorsRun (answers (start f₁ f₂) cs) ≡ D
+    verdict-run v =
+        let all = whole cs allowed in
+        elim (decLt (budgets (start f₁ f₂) cs) D) [
+          | yes l ↦
+              let none = subst (λ (l : List Call). Each (λ a. ¬ IsVerdict a) (answers (start f₁ f₂) l)) split (all .unfinished l .1) in
+              absurd (each-at (λ a. ¬ IsVerdict a) (start f₁ f₂) before c after none v)
+          | no h ↦ omega (arith, all .run)
+        ]
+
+pub at-verdict :
+    (f₁ f₂ : List ℕ) → opened f₁ f₂ .refusal .number ≡ 0 → (cs : List Call) → Allowed f₁ f₂ (start f₁ f₂) cs →
+    (before : List Call) (c : Call) (after : List Call) → cs ≡ before ++ c ∷ after →
+    let a = answerTo (sessionAfter (start f₁ f₂) before) c .answer in
+    IsVerdict a →
+    Settled f₁ f₂ a × (vectorsRun (answers (start f₁ f₂) cs) ≡ stop f₁ f₂)
+at-verdict f₁ f₂ e cs allowed before c after split v =
+    let pair = pair-accepted f₁ f₂ e in
+    (verdict-settled f₁ f₂ pair cs allowed before c after split v, verdict-run f₁ f₂ pair cs allowed before c after split v)
+
 pub demand3 : Demand3
-unfolding opened
-demand3 f₁ f₂ e = whole f₁ f₂ (rw (eq-eqb (pairRefusal f₁ f₂ .number) 0 e))
+demand3 f₁ f₂ e = whole f₁ f₂ (pair-accepted f₁ f₂ e)

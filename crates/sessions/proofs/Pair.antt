@@ -20,7 +20,7 @@ use Rattle.search.proofs.Search.{every-at}
 use Rattle.sizes.specs.Sizes.{maxInputs, refusedBy}
 use Rattle.sizes.specs.declared.Refusal.{Refusal}
 use Rattle.sizes.specs.declared.Sizes.{Sizes}
-use Rattle.sessions.specs.Session.{sameSizes, pairRefusal, isRefusal}
+use Rattle.sessions.specs.Session.{sameSizes, pairRefusal, isRefusal, opened}
 
 module _ (s₁ s₂ : List ℕ) where
   pub pair-first : ¬ (fileNumber s₁ ≡ 0) → pairRefusal s₁ s₂ ≡ refusalOf 1 s₁
@@ -72,6 +72,11 @@ cond-passed false r s refuses e = (refl, e)
 -- the refusal of a file refuses where its number isn't 0
 file-refuses : (w : ℕ) (s : List ℕ) → not (eqb (fileNumber s) 0) ≡ true → isRefusal (refusalOf w s) ≡ true
 file-refuses w s e = rw (refusal-number s w) e
+
+-- the files of an accepted opening
+pub pair-accepted : (s₁ s₂ : List ℕ) → opened s₁ s₂ .refusal .number ≡ 0 → isRefusal (pairRefusal s₁ s₂) ≡ false
+unfolding opened
+pair-accepted s₁ s₂ e = rw (eq-eqb (pairRefusal s₁ s₂ .number) 0 e)
 
 pub comparable : (s₁ s₂ : List ℕ) → isRefusal (pairRefusal s₁ s₂) ≡ false → Comparable s₁ s₂
 unfolding pairRefusal

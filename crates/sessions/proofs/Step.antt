@@ -31,7 +31,7 @@ use Rattle.sessions.specs.declared.Answer.{Answer}
 use Rattle.sessions.specs.declared.Continued.{Continued}
 use Rattle.sessions.specs.declared.Mark.{Mark}
 use Rattle.sessions.specs.declared.Mark.the-variants.{Open, Equal, Differ}
-use Rattle.sessions.specs.declared.Outcome.the-variants.{Refused, Spent, Equivalent}
+use Rattle.sessions.specs.declared.Kind.the-variants.{Refused, Spent, Equivalent}
 use Rattle.sessions.specs.declared.Session.{Session}
 
 -- sizes are the same as themselves
@@ -55,23 +55,23 @@ progress-accepts s₁ s₂ z B G q =
     (true-or-false (ltb q (z .position + min B (G - z .position))))
 
 -- neither refused nor spent is a verdict
-no-verdict : (a : Answer) → (a .outcome ≡ Refused) ⊎ (a .outcome ≡ Spent) → ¬ IsVerdict a
+no-verdict : (a : Answer) → (a .kind ≡ Refused) ⊎ (a .kind ≡ Spent) → ¬ IsVerdict a
 no-verdict a (inl o) (inl e) = let q : _≡_ {A = ℕ} 0 1 = cc in omega arith
 no-verdict a (inl o) (inr e) = let q : _≡_ {A = ℕ} 0 1 = cc in omega arith
 no-verdict a (inr o) (inl e) = let q : _≡_ {A = ℕ} 0 1 = cc in omega arith
 no-verdict a (inr o) (inr e) = let q : _≡_ {A = ℕ} 0 1 = cc in omega arith
 
 module _ (z : Session) (c : Call) where
-  abbrev refusal : Refusal
+  abbrev pub refusal : Refusal
   refusal = continueRefusal (c .file₁) (c .file₂) z (c .budget) (c .scratch)
 
   -- a refused call keeps the session
-  kept : isRefusal refusal ≡ true → answerTo z c ≡ record { session = z; answer = refusedAnswer refusal }
+  pub kept : isRefusal refusal ≡ true → answerTo z c ≡ record { session = z; answer = refusedAnswer refusal }
   unfolding answerTo continued advanced
   kept e = rw e
 
   -- the answer is a refusal exactly where a condition refuses the call
-  answer-refusal : isRefusal (answerTo z c .answer .refusal) ≡ isRefusal refusal
+  pub answer-refusal : isRefusal (answerTo z c .answer .refusal) ≡ isRefusal refusal
   unfolding answerTo continued advanced refusedAnswer
   answer-refusal =
       ⊎-elim

@@ -19,11 +19,11 @@ use Rattle.theorem.specs.Comparison.{Agree, IsFirst}
 use Rattle.theorem.specs.Statement.{OnGrid}
 use Rattle.theorem.proofs.Grid.{gridTheorem}
 use Rattle.sessions.specs.Calls.{IsVerdict}
-use Rattle.sessions.specs.Demand3.{firstPlace, stop, FullWidth, stopVector, Settled, MarkOf}
+use Rattle.sessions.specs.Demand3.{firstPlace, stop, FullWidth, stopVector, StopInRange, Settled, MarkOf}
 use Rattle.sessions.specs.Session.{pairRefusal, isRefusal, plainAnswer, differsAnswer}
 use Rattle.sessions.specs.declared.Answer.{Answer}
 use Rattle.sessions.proofs.Pair.{comparable}
-use Rattle.sessions.proofs.Step.{markAt, mark-differ, mark-equal, Verdict, differs, equivalent, place-high, stop-differs}
+use Rattle.sessions.proofs.Step.{markAt, mark-differ, mark-equal, Verdict, differs, equivalent, place-high, stop-differs, stop-range}
 
 pub given : (f₁ f₂ : List ℕ) (a : Answer) → Verdict f₁ f₂ a → IsVerdict a
 unfolding plainAnswer differsAnswer
@@ -56,6 +56,9 @@ module _ (f₁ f₂ : List ℕ) (pair : isRefusal (pairRefusal f₁ f₂) ≡ fa
   pub grid-least : 1 ≤ gridSize (sizesOf f₁)
   unfolding gridSize axesOf
   grid-least = size-least m (told .0 .outputLow) (told .0 .outputHigh) widths
+
+  pub stopped : StopInRange f₁ f₂
+  stopped = let r = stop-range f₁ f₂ in record { low = r .1 grid-least; high = r .0 }
 
   onGrid : OnGrid m widths (stepsOf f₁) (stepsOf f₂)
   onGrid = gridTheorem m (told .0 .outputLow) (told .0 .outputHigh) widths (stepsOf f₁) (stepsOf f₂)
@@ -96,5 +99,5 @@ module _ (f₁ f₂ : List ℕ) (pair : isRefusal (pairRefusal f₁ f₂) ≡ fa
           λ d. absurd (let q : _≡_ {A = ℕ} 0 1 = cc in omega arith),
           λ all. absurd (first .differs (same-outputs _ .0 (all (stopVector f₁ f₂) (first .fullWidth)))),
         );
-        differs = λ _. record { first = first; vector = refl; output₁ = refl; output₂ = refl };
+        differs = λ _. record { place = omega (arith, stop-differs f₁ f₂ p); first = first; vector = refl; output₁ = refl; output₂ = refl };
       })

@@ -17,7 +17,7 @@ use Prim.Native.Nat.{ℕ, _+_}
 use Rattle.sessions.specs.Session.{isRefusal, continued}
 use Rattle.sessions.specs.declared.Answer.{Answer}
 use Rattle.sessions.specs.declared.Continued.{Continued}
-use Rattle.sessions.specs.declared.Outcome.the-variants.{Equivalent, Differs}
+use Rattle.sessions.specs.declared.Kind.the-variants.{Equivalent, Differs}
 use Rattle.sessions.specs.declared.Session.{Session}
 
 pub record Call : Type 0 where
@@ -41,7 +41,7 @@ abbrev pub IsRefused : Answer → Type 0
 IsRefused a = isRefusal (a .refusal) ≡ true
 
 abbrev pub IsVerdict : Answer → Type 0
-IsVerdict a = (a .outcome ≡ Equivalent) ⊎ (a .outcome ≡ Differs)
+IsVerdict a = (a .kind ≡ Equivalent) ⊎ (a .kind ≡ Differs)
 
 unfoldable pub acceptedBudget : Session → Call → ℕ
 acceptedBudget z c = cond (isRefusal (answerTo z c .answer .refusal)) 0 (c .budget)

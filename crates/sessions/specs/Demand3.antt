@@ -2,7 +2,9 @@
 --   OwnFiles f₁ f₂ c     the call c has these two files in this order
 --   Allowed f₁ f₂ z cs   each call of the list, from the session z on, has these files in this order, or is refused where it stands
 --   stop f₁ f₂           D: one more than the place of the first grid vector at which the outputs differ, or G where there is none
+--   StopInRange f₁ f₂    D is from 1 to G
 --   Whole f₁ f₂ cs       what holds after the list cs, which starts from the session that opening gave:
+--     stopped      the stop is from 1 to G
 --     refused      a call with these files in this order is refused exactly when its budget is 0, its scratch slice is too short, or the
 --                  accepted budgets before it add up to D or more
 --     run          the vectors run add up to the smaller of S and D
@@ -11,8 +13,8 @@
 --     finished     otherwise: exactly one call has given a verdict, every later one was refused, and the mark is the verdict's
 --   Settled f₁ f₂ a      of the verdict: it is equivalent exactly where the outputs are equal at every full-width vector; if it is differs,
 --                        it shows the first difference
---   ShowsFirst f₁ f₂ a   the grid's vector at place D − 1 is the first of all full-width vectors at which the outputs differ; the answer
---                        shows it, and the two files' outputs there
+--   ShowsFirst f₁ f₂ a   place D − 1 is below G; the grid's vector there is the first of all full-width vectors at which the outputs differ;
+--                        the answer shows it, and the two files' outputs there
 use mathlib.Core.Path.{_≡_}
 use mathlib.Core.Bool.{cond}
 use mathlib.Core.Logic.{_⊎_, _↔_}
@@ -33,7 +35,7 @@ use Rattle.sessions.specs.Session.{opened}
 use Rattle.sessions.specs.declared.Answer.{Answer}
 use Rattle.sessions.specs.declared.Mark.{Mark}
 use Rattle.sessions.specs.declared.Mark.the-variants.{Open, Equal, Differ}
-use Rattle.sessions.specs.declared.Outcome.the-variants.{Equivalent, Differs}
+use Rattle.sessions.specs.declared.Kind.the-variants.{Equivalent, Differs}
 use Rattle.sessions.specs.declared.Session.{Session}
 
 pub record OwnFiles (f₁ f₂ : List ℕ) (c : Call) : Type 0 where
@@ -59,20 +61,25 @@ FullWidth f₁ x = Below (ranges (widthsOf (sizesOf f₁))) x
 abbrev pub stopVector : List ℕ → List ℕ → List ℕ
 stopVector f₁ f₂ = vectorAt (axesOf (sizesOf f₁)) (stop f₁ f₂ - 1)
 
+pub record StopInRange (f₁ f₂ : List ℕ) : Type 0 where
+  pub low : 1 ≤ stop f₁ f₂
+  pub high : stop f₁ f₂ ≤ gridSize (sizesOf f₁)
+
 pub record ShowsFirst (f₁ f₂ : List ℕ) (a : Answer) : Type 0 where
+  pub place : stop f₁ f₂ - 1 < gridSize (sizesOf f₁)
   pub first : IsFirst (sizesOf f₁ .m) (widthsOf (sizesOf f₁)) (stepsOf f₁) (stepsOf f₂) (stopVector f₁ f₂)
   pub vector : a .vector ≡ held (stopVector f₁ f₂)
   pub output₁ : a .output1 ≡ outputOf f₁ (stopVector f₁ f₂)
   pub output₂ : a .output2 ≡ outputOf f₂ (stopVector f₁ f₂)
 
 pub record Settled (f₁ f₂ : List ℕ) (a : Answer) : Type 0 where
-  pub equivalent : (a .outcome ≡ Equivalent) ↔ ((x : List ℕ) → FullWidth f₁ x → outputOf f₁ x ≡ outputOf f₂ x)
-  pub differs : a .outcome ≡ Differs → ShowsFirst f₁ f₂ a
+  pub equivalent : (a .kind ≡ Equivalent) ↔ ((x : List ℕ) → FullWidth f₁ x → outputOf f₁ x ≡ outputOf f₂ x)
+  pub differs : a .kind ≡ Differs → ShowsFirst f₁ f₂ a
 
 -- the mark is the verdict's: equal after equivalent, differ after differs
 pub record MarkOf (a : Answer) (mark : Mark) : Type 0 where
-  pub equal : a .outcome ≡ Equivalent → mark ≡ Equal
-  pub differ : a .outcome ≡ Differs → mark ≡ Differ
+  pub equal : a .kind ≡ Equivalent → mark ≡ Equal
+  pub differ : a .kind ≡ Differs → mark ≡ Differ
 
 -- of the calls cs, from the session z on, exactly one gives a verdict
 pub record Finished (f₁ f₂ : List ℕ) (z : Session) (cs : List Call) : Type 0 where
@@ -91,6 +98,7 @@ abbrev pub start : List ℕ → List ℕ → Session
 start f₁ f₂ = opened f₁ f₂ .session
 
 pub record Whole (f₁ f₂ : List ℕ) (cs : List Call) : Type 0 where
+  pub stopped : StopInRange f₁ f₂
   pub refused :
       (before : List Call) (c : Call) (after : List Call) →
       cs ≡ before ++ c ∷ after →

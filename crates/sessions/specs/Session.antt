@@ -29,8 +29,8 @@ use Rattle.sessions.specs.declared.Continued.{Continued}
 use Rattle.sessions.specs.declared.Mark.{Mark}
 use Rattle.sessions.specs.declared.Mark.the-variants.{Open, Equal, Differ}
 use Rattle.sessions.specs.declared.Opened.{Opened}
-use Rattle.sessions.specs.declared.Outcome.{Outcome}
-use Rattle.sessions.specs.declared.Outcome.the-variants.{Refused, Spent, Equivalent, Differs}
+use Rattle.sessions.specs.declared.Kind.{Kind}
+use Rattle.sessions.specs.declared.Kind.the-variants.{Refused, Spent, Equivalent, Differs}
 use Rattle.sessions.specs.declared.Session.{Session}
 
 unfoldable pub sameSizes : Sizes → Sizes → Bool
@@ -89,17 +89,17 @@ continueRefusal s₁ s₂ z B len =
 
 unfoldable pub refusedAnswer : Refusal → Answer
 refusedAnswer r =
-    record { refusal = r; outcome = Refused; run = 0; vector = replicate maxInputs 0; output1 = 0; output2 = 0 }
+    record { refusal = r; kind = Refused; run = 0; vector = replicate maxInputs 0; output1 = 0; output2 = 0 }
 
 -- an answer with no vector to show, after n vectors
-unfoldable pub plainAnswer : Outcome → ℕ → Answer
+unfoldable pub plainAnswer : Kind → ℕ → Answer
 plainAnswer o n =
-    record { refusal = accepted; outcome = o; run = n; vector = replicate maxInputs 0; output1 = 0; output2 = 0 }
+    record { refusal = accepted; kind = o; run = n; vector = replicate maxInputs 0; output1 = 0; output2 = 0 }
 
 -- the answer that shows the vector x with both outputs, after n vectors
 unfoldable pub differsAnswer : List ℕ → List ℕ → List ℕ → ℕ → Answer
 differsAnswer s₁ s₂ x n =
-    record { refusal = accepted; outcome = Differs; run = n; vector = held x; output1 = outputOf s₁ x; output2 = outputOf s₂ x }
+    record { refusal = accepted; kind = Differs; run = n; vector = held x; output1 = outputOf s₁ x; output2 = outputOf s₂ x }
 
 -- the session z at another position and under another mark
 abbrev pub movedTo : Session → ℕ → Mark → Session

@@ -50,7 +50,7 @@ pub struct Session {
 }
 
 // What a continue call came to.
-pub enum Outcome {
+pub enum Kind {
     Refused,
     Spent,
     Equivalent,
@@ -60,7 +60,7 @@ pub enum Outcome {
 // What a continue call answers. Fields that an answer has no use for are zero.
 pub struct Answer {
     pub refusal: Refusal,
-    pub outcome: Outcome,
+    pub kind: Kind,
     pub run: u64,
     pub vector: [u64; 8],
     pub output1: u64,
@@ -248,7 +248,7 @@ fn refused_answer(refusal: Refusal) -> Answer
 {
     Answer {
         refusal,
-        outcome: Outcome::Refused,
+        kind: Kind::Refused,
         run: 0,
         vector: [0, 0, 0, 0, 0, 0, 0, 0],
         output1: 0,
@@ -257,12 +257,12 @@ fn refused_answer(refusal: Refusal) -> Answer
 }
 
 // An answer with no vector to show, after `run` vectors.
-fn plain_answer(outcome: Outcome, run: u64) -> Answer
-    ensures { λ r. ⌜ r ≡ plainAnswer outcome run ⌝ }
+fn plain_answer(kind: Kind, run: u64) -> Answer
+    ensures { λ r. ⌜ r ≡ plainAnswer kind run ⌝ }
 {
     Answer {
         refusal: refused_by(0),
-        outcome,
+        kind,
         run,
         vector: [0, 0, 0, 0, 0, 0, 0, 0],
         output1: 0,
@@ -286,7 +286,7 @@ fn differs_answer(file1: &[u8], file2: &[u8], place: u64, run: u64, scratch: &mu
     let output2 = output_at(file2, step_count(file2), &vector, scratch);
     Answer {
         refusal: refused_by(0),
-        outcome: Outcome::Differs,
+        kind: Kind::Differs,
         run,
         vector,
         output1,
@@ -330,11 +330,11 @@ fn advance(
         return Continued { session, answer };
     }
     if left <= budget {
-        let answer = plain_answer(Outcome::Equivalent, left);
+        let answer = plain_answer(Kind::Equivalent, left);
         let session = moved(session, size, Mark::Equal);
         return Continued { session, answer };
     }
-    let answer = plain_answer(Outcome::Spent, budget);
+    let answer = plain_answer(Kind::Spent, budget);
     let session = moved(session, position + budget, Mark::Open);
     Continued { session, answer }
 }

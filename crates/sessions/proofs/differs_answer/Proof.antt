@@ -17,7 +17,7 @@ use Rattle.places.specs.Places.{vectorAt}
 use Rattle.sizes.specs.declared.Sizes.{Sizes}
 use Rattle.vectors.specs.Vectors.{held}
 use Rattle.sessions.specs.Session.{differsAnswer}
-use Rattle.sessions.specs.declared.Outcome.the-variants.{Differs}
+use Rattle.sessions.specs.declared.Kind.the-variants.{Differs}
 use borrow.Author.Needs.{needs}
 use Rattle.sessions.proofs.differs_answer.Statement.{statement}
 use Rattle.sessions.proofs.differs_answer.Tie as tie
@@ -83,7 +83,7 @@ returns c =
     let second = c .before .before .before .output-at2 .ensures in
     let o₁ = first .0 ∙ ap (outputOf s₁) v ∙ output-held s₁ x in
     let o₂ = second .0 ∙ ap (outputOf s₂) v ∙ output-held s₂ x in (
-      λ i. record { refusal = c .refused-by .ensures i; outcome = Differs; run = a .run; vector = v i; output1 = o₁ i; output2 = o₂ i },
+      λ i. record { refusal = c .refused-by .ensures i; kind = Differs; run = a .run; vector = v i; output1 = o₁ i; output2 = o₂ i },
       drop-later _ _ (c .before .before .before .before .before .before .step-count2 .result) (largerCount s₁ s₂) (omega (arith, c .before .before .before .before .before .before .step-count2 .ensures .0, le-max-right (stepCount s₁) (stepCount s₂))) (second .1)
           ∙ drop-later _ _ (c .before .before .before .before .before .before .before .before .before .before .before .before .step-count .result) (largerCount s₁ s₂) (omega (arith, c .before .before .before .before .before .before .before .before .before .before .before .before .step-count .ensures .0, le-max-left (stepCount s₁) (stepCount s₂))) (first .1),
     )

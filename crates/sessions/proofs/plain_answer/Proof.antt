@@ -14,7 +14,7 @@ returns : tie.Need-returns
 unfolding plainAnswer
 returns c =
     let a = c .before .args in
-    λ i. record { refusal = c .refused-by .ensures i; outcome = a .outcome; run = a .run; vector = replicate maxInputs 0; output1 = 0; output2 = 0 }
+    λ i. record { refusal = c .refused-by .ensures i; kind = a .kind; run = a .run; vector = replicate maxInputs 0; output1 = 0; output2 = 0 }
 
 pub plain-answer-spec : {M : Type 1} → statement M
 plain-answer-spec = tie.close (tie.spec refused-by-requires returns)

@@ -1,23 +1,29 @@
 /* Corkbingo: the C interface of the datapath equivalence checker.
  *
  * A byte slice is a pointer and a length. A word slice is a pointer to uint64_t and a length in
- * words. Slices that a call writes overlap no other slice of the call. Files, vectors, tables and
- * numbers may hold anything; no call reads or writes outside the slices it is lent.
+ * words. Slices that a call writes overlap no other slice of the call; slices that are only read
+ * may be the same. Files, vectors, tables and numbers may hold anything; no call reads or writes
+ * outside the slices it is lent. Of a slice with length 0 the pointer is not used, and may be null;
+ * a null pointer with another length is the caller's error, as any wrong pointer is.
+ *
+ * A thread whose stack has CORKBINGO_STACK_BYTES free can make every call: a call takes at most 96
+ * KiB of it. A call keeps nothing for the next one, so that several threads may call at once, each
+ * on slices of its own.
  *
  * Every answer goes into a word slice of a fixed length, which the caller lends. Sizes and
  * sessions are word slices of fixed lengths too:
  *
  *   sizes, 10 words      m, d, n1 to n8 (0 past the d-th); each at most 255
- *   session, 12 words    m, d, n1 to n8, each at most 255; position; mark (0 open, 1 equal,
- *                        2 differ)
+ *   session, 12 words    m, d, n1 to n8, each at most 255; position; mark (CORKBINGO_MARK_..)
  *
  * A function returns 1 where these lengths are right and the words that it reads of sizes or of a
  * session fit their fields. The answer is then written whole, a refusal too. Otherwise it returns
  * 0 and has touched nothing.
  *
- * The first three words of an answer are the refusal: number, file, step. The number is 0 where
- * the call is accepted; file and step are then 0 too. Of a refused call all other words of the
- * answer are 0, and every other lent entry is untouched, but for the session of a refused opening.
+ * The first three words of every answer but those of corkbingo_operations and corkbingo_report are
+ * the refusal: number, file, step. The number is 0 where the call is accepted; file and step are
+ * then 0 too. Of a refused call all other words of the answer are 0, and every other lent entry is
+ * untouched, the session of a continue call too; a refused opening sets the session to zeros.
  * The numbers:
  *
  *    1  a file is under 12 bytes
@@ -51,7 +57,14 @@
 #include <stdint.h>
 
 /* The version of this interface: it grows with every change of a function or a layout. */
-#define CORKBINGO_VERSION 1
+#define CORKBINGO_VERSION 2
+
+/* The stack, in bytes, with which a thread can make every call. */
+#define CORKBINGO_STACK_BYTES 106496
+
+/* The most inputs and the most steps that a file may have. */
+#define CORKBINGO_INPUTS 8
+#define CORKBINGO_STEPS 1024
 
 /* The lengths of sizes and sessions, in words. */
 #define CORKBINGO_SIZES_WORDS 10
@@ -68,17 +81,40 @@
 #define CORKBINGO_SUM_WORDS 3
 #define CORKBINGO_OPEN_WORDS 3
 #define CORKBINGO_CONTINUE_WORDS 15
+#define CORKBINGO_REPORT_WORDS 1
 
-/* The mark of a session. */
-#define CORKBINGO_OPEN 0
-#define CORKBINGO_EQUAL 1
-#define CORKBINGO_DIFFER 2
+/* The least length of a text slice, in bytes: no text of corkbingo_report is longer. */
+#define CORKBINGO_TEXT_BYTES 512
 
-/* The kind of an answer of corkbingo_continue. */
-#define CORKBINGO_REFUSED 0
-#define CORKBINGO_SPENT 1
-#define CORKBINGO_EQUIVALENT 2
-#define CORKBINGO_DIFFERS 3
+/* Where the words of a refusal stand, at the start of an answer. */
+#define CORKBINGO_REFUSAL_NUMBER 0
+#define CORKBINGO_REFUSAL_FILE 1
+#define CORKBINGO_REFUSAL_STEP 2
+
+/* Where the words of a session stand. */
+#define CORKBINGO_SESSION_M 0
+#define CORKBINGO_SESSION_D 1
+#define CORKBINGO_SESSION_WIDTHS 2
+#define CORKBINGO_SESSION_POSITION 10
+#define CORKBINGO_SESSION_MARK 11
+
+/* The mark of a session: its word CORKBINGO_SESSION_MARK. */
+#define CORKBINGO_MARK_OPEN 0
+#define CORKBINGO_MARK_EQUAL 1
+#define CORKBINGO_MARK_DIFFER 2
+
+/* Where the words of an answer of corkbingo_continue stand, after the refusal. */
+#define CORKBINGO_ANSWER_KIND 3
+#define CORKBINGO_ANSWER_RUN 4
+#define CORKBINGO_ANSWER_VECTOR 5
+#define CORKBINGO_ANSWER_OUTPUT1 13
+#define CORKBINGO_ANSWER_OUTPUT2 14
+
+/* The kind of an answer of corkbingo_continue: its word CORKBINGO_ANSWER_KIND. */
+#define CORKBINGO_KIND_REFUSED 0
+#define CORKBINGO_KIND_SPENT 1
+#define CORKBINGO_KIND_EQUIVALENT 2
+#define CORKBINGO_KIND_DIFFERS 3
 
 #ifdef __cplusplus
 extern "C" {
@@ -133,7 +169,7 @@ uint32_t corkbingo_sum(const uint64_t *sizes, size_t sizes_len,
                        uint64_t *out, size_t out_len);
 
 /* Opens a session of two files. Answer, 3 words: the refusal. Writes the session: the files' sizes,
- * position 0, open; of a refused opening all words are 0. What the slice held is not read. */
+ * position 0, mark open; of a refused opening all words are 0. What the slice held is not read. */
 uint32_t corkbingo_open(const uint8_t *file1, size_t file1_len,
                         const uint8_t *file2, size_t file2_len,
                         uint64_t *session, size_t session_len,
@@ -144,20 +180,49 @@ uint32_t corkbingo_open(const uint8_t *file1, size_t file1_len,
  * output of file 2. By kind:
  *
  *   spent         none of these vectors differs, and more remain; the position grows by the budget
- *   equivalent    none differs up to the end of the grid: the outputs are then equal at every
- *                 full-width vector; the position becomes G, the mark equal
+ *   equivalent    none of these differs, and they reach the end of the grid; the position becomes
+ *                 G, the mark equal
  *   differs       the first that differs is shown (0 past the d-th) with both outputs; the position
  *                 becomes its place plus 1, the mark differ
  *
  * The vectors run are the new position less the old. Vector and outputs are 0 but in differs. A
  * refused call leaves the session as it was. After an accepted call the first entries of the
- * scratch slice, as many as the longer file has steps, are 0 and the others untouched. */
+ * scratch slice, as many as the longer file has steps, are 0 and the others untouched.
+ *
+ * What a verdict says of all full-width vectors holds of a session that corkbingo_open gave for
+ * these two files in this order, and that only calls of corkbingo_continue with these files in this
+ * order, or refused ones, have been given since: equivalent is then said exactly where the outputs
+ * are equal at every full-width vector, and the vector shown by differs is the first of all
+ * full-width vectors at which they differ. A session whose words the caller made up, or that an
+ * accepted call with other files moved on, is answered from its position on, and a verdict then
+ * speaks of those places alone.
+ */
 uint32_t corkbingo_continue(const uint8_t *file1, size_t file1_len,
                             const uint8_t *file2, size_t file2_len,
                             uint64_t *session, size_t session_len,
                             uint64_t budget,
                             uint64_t *scratch, size_t scratch_len,
                             uint64_t *answer, size_t answer_len);
+
+/* Writes the text that the comparing program prints at the start of the text slice, for an answer
+ * of corkbingo_continue on these files and `run`, the vectors run over all calls. The text slice has
+ * CORKBINGO_TEXT_BYTES or more, else the call returns 0. Answer, 1 word: the length of the text. By
+ * the answer's kind:
+ *
+ *   refused                 the line of the refusal: refused, number, file, step
+ *   equivalent, differs     three lines: the grid, the verdict, the vectors run; no text where
+ *                           opening the files is refused
+ *   spent, anything else    no text
+ *
+ * The answer's words are shown as they are. Bytes past the text stay untouched, and there is no
+ * ending zero. The refusal of an opening is got as an answer by continuing its session with a
+ * budget above 0. */
+uint32_t corkbingo_report(const uint8_t *file1, size_t file1_len,
+                          const uint8_t *file2, size_t file2_len,
+                          const uint64_t *answer, size_t answer_len,
+                          uint64_t run,
+                          uint8_t *text, size_t text_len,
+                          uint64_t *out, size_t out_len);
 
 #ifdef __cplusplus
 }

@@ -1,6 +1,6 @@
 /* Calls each function of the header, on the sample files of document 01: a.dp, x1 x2 with m 2 and
- * word lengths 1 and 2, and b.dp, 0 with the same sizes. The functions on tables and on sessions
- * are called where TABLES and SESSIONS are defined. Prints `ok header: K comparisons`, or `FAILED header: what`, and ends
+ * word lengths 1 and 2, and b.dp, 0 with the same sizes; and with empty slices whose pointers are
+ * null. Prints `ok header: K comparisons`, or `FAILED header: what`, and ends
  * with status 1 where something failed. */
 #include "corkbingo.h"
 
@@ -41,7 +41,6 @@ static void answer(const char *what, uint32_t returned, const uint64_t *found,
         same(what, index, found[index], expected[index]);
 }
 
-#ifdef TABLES
 static void tables(void)
 {
     static const uint64_t sizes[CORKBINGO_SIZES_WORDS] = {2, 2, 1, 2};
@@ -72,13 +71,19 @@ static void tables(void)
     answer("difference", returned, out, accepted, CORKBINGO_DIFFERENCE_WORDS);
     answer("cells of difference", returned, differenced, cells, 9);
 }
-#endif
 
-#ifdef SESSIONS
 static const uint8_t zero[21] = {
     2, 2, 1, 0, 1, 2, 0, 0, 0, 0, 0, 0,
     2,
     0, 0, 0, 0, 0, 0, 0, 0,
+};
+
+/* The same with a step more: its operand is the step itself, which is refused by 8 at step 1. */
+static const uint8_t wrong[30] = {
+    2, 2, 2, 0, 1, 2, 0, 0, 0, 0, 0, 0,
+    2, 3,
+    0, 0, 0, 0, 0, 0, 0, 0,
+    1, 0, 0, 0, 0, 0, 0, 0,
 };
 
 static void sessions(void)
@@ -86,13 +91,15 @@ static void sessions(void)
     static const uint64_t accepted[CORKBINGO_OPEN_WORDS] = {0, 0, 0};
     static const uint64_t opened[CORKBINGO_SESSION_WORDS] = {2, 2, 1, 2};
     static const uint64_t before[CORKBINGO_SESSION_WORDS] = {
-        2, 2, 1, 2, 0, 0, 0, 0, 0, 0, 5, CORKBINGO_OPEN};
+        2, 2, 1, 2, 0, 0, 0, 0, 0, 0, 5, CORKBINGO_MARK_OPEN};
     static const uint64_t after[CORKBINGO_SESSION_WORDS] = {
-        2, 2, 1, 2, 0, 0, 0, 0, 0, 0, 6, CORKBINGO_DIFFER};
-    static const uint64_t spent[CORKBINGO_CONTINUE_WORDS] = {0, 0, 0, CORKBINGO_SPENT, 5};
+        2, 2, 1, 2, 0, 0, 0, 0, 0, 0, 6, CORKBINGO_MARK_DIFFER};
+    static const uint64_t spent[CORKBINGO_CONTINUE_WORDS] = {0, 0, 0, CORKBINGO_KIND_SPENT, 5};
     static const uint64_t shown[CORKBINGO_CONTINUE_WORDS] = {
-        0, 0, 0, CORKBINGO_DIFFERS, 1, 1, 1, 0, 0, 0, 0, 0, 0, 1, 0};
+        0, 0, 0, CORKBINGO_KIND_DIFFERS, 1, 1, 1, 0, 0, 0, 0, 0, 0, 1, 0};
     static const uint64_t refused[CORKBINGO_CONTINUE_WORDS] = {103};
+    static const char lines[] = "grid 2 4 = 8\ndiffer 1 1 : 1 0\nrun 6\n";
+    uint8_t text[CORKBINGO_TEXT_BYTES];
     static const uint64_t cleared[4] = {0, 0, 0, 7};
     uint64_t scratch[4] = {7, 7, 7, 7};
     uint64_t session[CORKBINGO_SESSION_WORDS];
@@ -115,6 +122,11 @@ static void sessions(void)
                                   CORKBINGO_SESSION_WORDS, UINT64_MAX, scratch, 3, out,
                                   CORKBINGO_CONTINUE_WORDS);
     answer("differs", returned, out, shown, CORKBINGO_CONTINUE_WORDS);
+    same("kind", CORKBINGO_ANSWER_KIND, out[CORKBINGO_ANSWER_KIND], CORKBINGO_KIND_DIFFERS);
+    same("run", CORKBINGO_ANSWER_RUN, out[CORKBINGO_ANSWER_RUN], 1);
+    same("second input", CORKBINGO_ANSWER_VECTOR + 1, out[CORKBINGO_ANSWER_VECTOR + 1], 1);
+    same("output 1", CORKBINGO_ANSWER_OUTPUT1, out[CORKBINGO_ANSWER_OUTPUT1], 1);
+    same("output 2", CORKBINGO_ANSWER_OUTPUT2, out[CORKBINGO_ANSWER_OUTPUT2], 0);
     answer("session of differs", returned, session, after, CORKBINGO_SESSION_WORDS);
 
     returned = corkbingo_continue(sample, sizeof sample, zero, sizeof zero, session,
@@ -122,8 +134,75 @@ static void sessions(void)
                                   CORKBINGO_CONTINUE_WORDS);
     answer("refused", returned, out, refused, CORKBINGO_CONTINUE_WORDS);
     answer("session of refused", returned, session, after, CORKBINGO_SESSION_WORDS);
+    same("position", CORKBINGO_SESSION_POSITION, session[CORKBINGO_SESSION_POSITION], 6);
+    same("mark", CORKBINGO_SESSION_MARK, session[CORKBINGO_SESSION_MARK], CORKBINGO_MARK_DIFFER);
+    same("second word length", CORKBINGO_SESSION_WIDTHS + 1, session[CORKBINGO_SESSION_WIDTHS + 1], 2);
+    same("m", CORKBINGO_SESSION_M, session[CORKBINGO_SESSION_M], 2);
+    same("d", CORKBINGO_SESSION_D, session[CORKBINGO_SESSION_D], 2);
+
+    returned = corkbingo_open(sample, sizeof sample, wrong, sizeof wrong, session, CORKBINGO_SESSION_WORDS,
+                              out, CORKBINGO_OPEN_WORDS);
+    same("opening of a wrong file", 0, returned, 1);
+    same("number", CORKBINGO_REFUSAL_NUMBER, out[CORKBINGO_REFUSAL_NUMBER], 8);
+    same("file", CORKBINGO_REFUSAL_FILE, out[CORKBINGO_REFUSAL_FILE], 2);
+    same("step", CORKBINGO_REFUSAL_STEP, out[CORKBINGO_REFUSAL_STEP], 1);
+
+    returned = corkbingo_report(sample, sizeof sample, zero, sizeof zero, shown, CORKBINGO_CONTINUE_WORDS, 6,
+                                text, CORKBINGO_TEXT_BYTES, out, CORKBINGO_REPORT_WORDS);
+    same("report", 0, returned, 1);
+    same("length of report", 0, out[0], sizeof lines - 1);
+    for (size_t index = 0; index < sizeof lines - 1; index++)
+        same("text of report", index, text[index], (uint8_t)lines[index]);
 }
-#endif
+
+/* Every call with empty slices whose pointers are null: an answer or a refusal where the slice may
+ * have any length, 0 where it has one of its own. */
+static void empty(void)
+{
+    static const uint64_t sizes[CORKBINGO_SIZES_WORDS] = {2, 2, 1, 2};
+    static const uint64_t vector[2] = {1, 3};
+    static const uint64_t continued[CORKBINGO_CONTINUE_WORDS] = {0, 0, 0, CORKBINGO_KIND_EQUIVALENT};
+    uint64_t session[CORKBINGO_SESSION_WORDS], out[CORKBINGO_CONTINUE_WORDS], room[8];
+    uint8_t text[CORKBINGO_TEXT_BYTES];
+
+    same("check, no file", 0, corkbingo_check(NULL, 0, out, 3), 1);
+    same("check, no file", 1, out[CORKBINGO_REFUSAL_NUMBER], 1);
+    same("check, no answer", 0, corkbingo_check(sample, sizeof sample, NULL, 0), 0);
+    same("operations, no file", 0, corkbingo_operations(NULL, 0, out, 2), 1);
+    same("operations, no answer", 0, corkbingo_operations(sample, sizeof sample, NULL, 0), 0);
+    same("bound, no answer", 0, corkbingo_bound(2, NULL, 0), 0);
+    same("grid, no file", 0, corkbingo_grid(NULL, 0, out, CORKBINGO_GRID_WORDS), 1);
+    same("grid, no answer", 0, corkbingo_grid(sample, sizeof sample, NULL, 0), 0);
+    same("evaluate, no file", 0, corkbingo_evaluate(NULL, 0, vector, 2, room, 8, out, 4), 1);
+    same("evaluate, no scratch", 0, corkbingo_evaluate(sample, sizeof sample, vector, 2, NULL, 0, out, 4), 1);
+    same("evaluate, no scratch", 1, out[CORKBINGO_REFUSAL_NUMBER], 12);
+    same("evaluate, no vector", 0, corkbingo_evaluate(sample, sizeof sample, NULL, 0, room, 8, out, 4), 1);
+    same("evaluate, no vector", 1, out[CORKBINGO_REFUSAL_NUMBER], 14);
+    same("evaluate, nothing", 0, corkbingo_evaluate(NULL, 0, NULL, 0, NULL, 0, NULL, 0), 0);
+    same("table, no scratch", 0, corkbingo_table(sample, sizeof sample, NULL, 0, room, 8, out, 3), 1);
+    same("table, no scratch", 1, out[CORKBINGO_REFUSAL_NUMBER], 12);
+    same("table, no table", 0, corkbingo_table(sample, sizeof sample, room, 8, NULL, 0, out, 3), 1);
+    same("table, no table", 1, out[CORKBINGO_REFUSAL_NUMBER], 13);
+    same("table, nothing", 0, corkbingo_table(NULL, 0, NULL, 0, NULL, 0, NULL, 0), 0);
+    same("difference, no cells", 0, corkbingo_difference(sizes, CORKBINGO_SIZES_WORDS, NULL, 0, NULL, 0, out, 3), 1);
+    same("difference, no cells", 1, out[CORKBINGO_REFUSAL_NUMBER], 13);
+    same("difference, nothing", 0, corkbingo_difference(NULL, 0, NULL, 0, NULL, 0, NULL, 0), 0);
+    same("sum, no cells", 0, corkbingo_sum(sizes, CORKBINGO_SIZES_WORDS, NULL, 0, NULL, 0, out, 3), 1);
+    same("sum, no cells", 1, out[CORKBINGO_REFUSAL_NUMBER], 13);
+    same("sum, nothing", 0, corkbingo_sum(NULL, 0, NULL, 0, NULL, 0, NULL, 0), 0);
+    same("open, no files", 0, corkbingo_open(NULL, 0, NULL, 0, session, CORKBINGO_SESSION_WORDS, out, 3), 1);
+    same("open, no files", 1, out[CORKBINGO_REFUSAL_NUMBER], 1);
+    same("open, nothing", 0, corkbingo_open(NULL, 0, NULL, 0, NULL, 0, NULL, 0), 0);
+    same("continue, no files and no scratch", 0,
+         corkbingo_continue(NULL, 0, NULL, 0, session, CORKBINGO_SESSION_WORDS, 1, NULL, 0, out,
+                            CORKBINGO_CONTINUE_WORDS), 1);
+    same("continue, no files and no scratch", 1, out[CORKBINGO_REFUSAL_NUMBER], 1);
+    same("continue, nothing", 0, corkbingo_continue(NULL, 0, NULL, 0, NULL, 0, 1, NULL, 0, NULL, 0), 0);
+    same("report, no files", 0,
+         corkbingo_report(NULL, 0, NULL, 0, continued, CORKBINGO_CONTINUE_WORDS, 8, text, sizeof text, out, 1), 1);
+    same("report, no files", 1, out[0], 0);
+    same("report, nothing", 0, corkbingo_report(NULL, 0, NULL, 0, NULL, 0, 8, NULL, 0, NULL, 0), 0);
+}
 
 int main(void)
 {
@@ -155,12 +234,9 @@ int main(void)
     answer("evaluate", returned, out, output, CORKBINGO_EVALUATE_WORDS);
     answer("scratch of evaluate", returned, scratch, cleared, 4);
 
-#ifdef TABLES
     tables();
-#endif
-#ifdef SESSIONS
     sessions();
-#endif
+    empty();
 
     if (failures == 0)
         printf("ok header: %u comparisons\n", comparisons);

@@ -1,13 +1,12 @@
--- What a call leaves, by the length of the lent answer slice; and the words of each answer by its cases.
-use mathlib.Core.Path.{_≡_, _∙_, ap}
+-- The words of each answer about one file, by its cases. Assumes nothing.
+use mathlib.Core.Path.{_≡_, _∙_}
 use mathlib.Core.Bool.{true, false}
 use mathlib.Core.Logic.{_⊎_, ⊎-elim}
 use mathlib.Core.List.{List, [], _∷_, _++_}
 use Prim.Native.Nat.{ℕ}
 use native.Mathlib.Decide.{ℕ-discrete}
 use native.Mathlib.Omega.{arith}
-use lib.ListN.{length, getD, length-take, length-drop}
-use lib.Seq.{take-all}
+use lib.ListN.{length, length-take, length-drop}
 use borrow.Author.Tests.{eq-eqb, ne-eqb}
 use Rattle.bound.specs.Bound.{bound}
 use Rattle.file.specs.Check.{fileNumber, refusalOf, stretchOf}
@@ -16,16 +15,9 @@ use Rattle.file.proofs.Accepted.{accepted}
 use Rattle.file.proofs.Number.{stretch-accepted, stretch-refused}
 use Rattle.grid.specs.Grid.{gridOf}
 use Rattle.grid.proofs.Axes.{never-large}
-use Rattle.lists.proofs.Lists.{entries-stretch}
+use Rattle.layouts.specs.AnswerWords.{refusalWords}
 use Rattle.sizes.specs.Sizes.{within}
-use Rattle.exports.specs.Words.{rightLength, answered, refusalWords, operationWords, boundWords, gridAsWords, gridWords}
-
-module _ (n : ℕ) (out : List ℕ) where
-  pub untouched : ¬ (length out ≡ n) → (w : List ℕ) → (0 ≡ rightLength n out) × (out ≡ answered n out w)
-  untouched e w = (rw (ne-eqb (length out) n e), rw (ne-eqb (length out) n e))
-
-  pub written : length out ≡ n → {v w : List ℕ} → v ≡ w → (1 ≡ rightLength n out) × (v ≡ answered n out w)
-  written e q = (rw (eq-eqb (length out) n e), rw (eq-eqb (length out) n e) q)
+use Rattle.exports.specs.Words.{operationWords, boundWords, gridAsWords, noGrid, gridWords}
 
 module _ (s : List ℕ) where
   operations-accepted : fileNumber s ≡ 0 → operationWords s ≡ headLength ∷ stepCount s ∷ []
@@ -56,7 +48,7 @@ module _ (s : List ℕ) where
             ⊎-elim (λ w. cc (operations-refused x)) (λ w. absurd (w .0 (e ∙ k))) t
       ]
 
-  pub grid-refused : ¬ (fileNumber s ≡ 0) → gridWords s ≡ refusalWords (refusalOf 1 s) ++ (0 ∷ 0 ∷ 0 ∷ 0 ∷ 0 ∷ 0 ∷ 0 ∷ 0 ∷ 0 ∷ [])
+  pub grid-refused : ¬ (fileNumber s ≡ 0) → gridWords s ≡ refusalWords (refusalOf 1 s) ++ noGrid
   unfolding gridWords
   grid-refused n = rw (ne-eqb (fileNumber s) 0 n)
 
@@ -73,9 +65,3 @@ bound-refused m e = rw e
 pub bound-accepted : (m : ℕ) → within 1 64 m ≡ true → boundWords m ≡ 0 ∷ 0 ∷ 0 ∷ bound m ∷ []
 unfolding boundWords
 bound-accepted m e = rw e
-
--- a list of eight entries, entry by entry, before another
-pub eight :
-    (l rest : List ℕ) → length l ≡ 8 →
-    getD l 0 0 ∷ getD l 1 0 ∷ getD l 2 0 ∷ getD l 3 0 ∷ getD l 4 0 ∷ getD l 5 0 ∷ getD l 6 0 ∷ getD l 7 0 ∷ rest ≡ l ++ rest
-eight l rest e = ap (λ k. k ++ rest) (entries-stretch 8 l 0 (omega arith) ∙ take-all 8 l (omega arith))

@@ -1,39 +1,43 @@
--- The layouts of sizes as words and of the calls that take them: what each test tells. By the laws of tests.
-use mathlib.Core.Bool.{true, false, _&&_, and-eq-true-iff}
+-- The layouts of the calls that take sizes or sessions: which test decides. By the laws of tests. Assumes nothing.
+use mathlib.Core.Bool.{true, false}
 use mathlib.Core.List.{List}
 use mathlib.Core.Path.{_≡_}
-use Prim.Native.Nat.{ℕ, _≤_}
-use native.Mathlib.Omega.{arith}
-use lib.Dec.{eqb}
+use Prim.Native.Nat.{ℕ}
 use lib.ListN.{length}
-use borrow.Author.Tests.{ltb-true, eq-eqb, ne-eqb, eqb-true}
-use Rattle.search.proofs.Search.{every-at}
-use Rattle.exports.specs.SizeWords.{fitsByte, tenBytes, TenBytes}
-use Rattle.exports.specs.TableWords.{laidOut}
+use borrow.Author.Tests.{eq-eqb, ne-eqb}
+use Rattle.layouts.specs.Lengths.{sessionLength, refusalLength, answerLength}
+use Rattle.layouts.specs.SessionWords.{sessionFits}
+use Rattle.layouts.specs.SizeWords.{sizesFit}
+use Rattle.exports.specs.SessionCalls.{openFits, continueFits}
+use Rattle.exports.specs.TableCalls.{cellsFit}
 
-pub bytes-told : (w : List ℕ) → 10 ≤ length w → tenBytes w ≡ true → TenBytes w
-unfolding tenBytes fitsByte
-bytes-told w h e =
-    record { long = h; small = λ i l. ltb-true _ _ (every-at (fitsByte w) 0 10 i e (omega arith) (omega arith)) }
+module _ (z o : List ℕ) where
+  pub cells-out-wrong : ¬ (length o ≡ refusalLength) → cellsFit z o ≡ false
+  unfolding cellsFit
+  cells-out-wrong n = rw (ne-eqb (length o) refusalLength n)
 
-module _ (w : List ℕ) (len : ℕ) where
-  pub answer-wrong : ¬ (len ≡ 3) → laidOut w len ≡ false
-  unfolding laidOut
-  answer-wrong n = rw (ne-eqb len 3 n)
+  pub cells-judged : length o ≡ refusalLength → cellsFit z o ≡ sizesFit z
+  unfolding cellsFit
+  cells-judged e = rw (eq-eqb (length o) refusalLength e)
 
-  module _ (e : len ≡ 3) where
-    pub sizes-wrong : ¬ (length w ≡ 10) → laidOut w len ≡ false
-    unfolding laidOut
-    sizes-wrong n = rw (eq-eqb len 3 e, ne-eqb (length w) 10 n)
+module _ (w o : List ℕ) where
+  pub open-session-wrong : ¬ (length w ≡ sessionLength) → openFits w o ≡ false
+  unfolding openFits
+  open-session-wrong n = rw (ne-eqb (length w) sessionLength n)
 
-    pub sizes-judged : length w ≡ 10 → laidOut w len ≡ tenBytes w
-    unfolding laidOut
-    sizes-judged l = rw (eq-eqb len 3 e, eq-eqb (length w) 10 l)
+  module _ (e : length w ≡ sessionLength) where
+    pub open-out-wrong : ¬ (length o ≡ refusalLength) → openFits w o ≡ false
+    unfolding openFits
+    open-out-wrong n = rw (eq-eqb (length w) sessionLength e, ne-eqb (length o) refusalLength n)
 
-  pub laid : laidOut w len ≡ true → (len ≡ 3) × TenBytes w
-  unfolding laidOut
-  laid e =
-      let p = and-eq-true-iff (eqb len 3 && eqb (length w) 10) (tenBytes w) .0 e in
-      let q = and-eq-true-iff (eqb len 3) (eqb (length w) 10) .0 (p .0) in
-      let l = eqb-true (length w) 10 (q .1) in
-      (eqb-true len 3 (q .0), bytes-told w (omega arith) (p .1))
+    pub open-laid : length o ≡ refusalLength → openFits w o ≡ true
+    unfolding openFits
+    open-laid l = rw (eq-eqb (length w) sessionLength e, eq-eqb (length o) refusalLength l)
+
+  pub continue-answer-wrong : ¬ (length o ≡ answerLength) → continueFits w o ≡ false
+  unfolding continueFits
+  continue-answer-wrong n = rw (ne-eqb (length o) answerLength n)
+
+  pub continue-judged : length o ≡ answerLength → continueFits w o ≡ sessionFits w
+  unfolding continueFits
+  continue-judged e = rw (eq-eqb (length o) answerLength e)

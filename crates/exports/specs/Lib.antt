@@ -1,4 +1,6 @@
-pub mod SessionWords
-pub mod SizeWords
-pub mod TableWords
+pub mod FileCalls
+pub mod Layout
+pub mod ReportCalls
+pub mod SessionCalls
+pub mod TableCalls
 pub mod Words

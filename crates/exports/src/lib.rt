@@ -1,63 +1,59 @@
-// The C interface: every call of the library on pointers, lengths and words. Each returns 1 where the lent answer slice has the length that
-// the header gives, and 0, with nothing touched, where it has another.
+// The C interface: every call of the library on pointers, lengths and words. Each returns 1 where its layout is right, as the header gives
+// it, and 0, with nothing touched, where it is not.
 use bound::bound;
 use evaluate::evaluate;
 use file::check;
 use file::fields::read_sizes;
 use file::operations;
 use grid::grid_of;
+use layouts::MAX_INPUTS;
+use layouts::REFUSAL_LENGTH;
+use layouts::answer_words::put_refusal;
+use layouts::copy_words;
 use sizes::within;
-ghost use mathlib.Core.Path.{_≡_};
-ghost use lib.ListN.{length};
-ghost use Rattle.evaluate.specs.Evaluate.{evaluatedAt};
-ghost use Rattle.file.specs.Check.{refusalOf};
-ghost use Rattle.exports.specs.Words.{
-  rightLength,
-  answered,
-  refusalWords,
-  operationWords,
-  boundWords,
-  gridWords,
-  evaluateWords,
-  evaluateScratch,
+ghost use Rattle.exports.specs.FileCalls.{
+  CheckCall,
+  OperationsCall,
+  BoundCall,
+  GridCall,
+  EvaluateCall,
 };
 
+mod report_calls;
 mod session_calls;
-mod size_words;
 mod table_calls;
 
-// The words are copied into a slice of the same length.
-fn copy_words(out: &mut [u64], words: &[u64])
-    requires { ⌜ length (now out) ≡ length (now words) ⌝ }
-    ensures { λ _. ⌜ now (out .exit) ≡ now (words .entry) ⌝ }
-{
-    let mut i = 0;
-    while i < words.len() {
-        out[i] = words[i];
-        i += 1;
-    }
-}
+// The words of the answer about operation bytes: start and length.
+const OPERATIONS_LENGTH: usize = 2;
 
-// Whether a file is accepted: out has 3 words and gets the refusal.
+// The words of the answer about a bound: the refusal and L(m).
+const BOUND_LENGTH: usize = REFUSAL_LENGTH + 1;
+
+// The words of the answer about a grid: the refusal, the axes and G.
+const GRID_LENGTH: usize = REFUSAL_LENGTH + MAX_INPUTS + 1;
+
+// The words of the answer of an evaluation: the refusal and the output.
+const EVALUATE_LENGTH: usize = REFUSAL_LENGTH + 1;
+
+// Whether a file is accepted: out gets the refusal.
 #[no_mangle]
 pub extern "C" fn corkbingo_check(file: &[u8], out: &mut [u64]) -> u32
-    ensures { λ r. ⌜ (r ≡ rightLength 3 (now (out .entry))) × (now (out .exit) ≡ answered 3 (now (out .entry)) (refusalWords (refusalOf 1 (now (file .entry))))) ⌝ }
+    ensures { λ r. ⌜ CheckCall (now (file .entry)) (now (out .entry)) r (now (out .exit)) ⌝ }
 {
-    if out.len() != 3 {
+    if out.len() != REFUSAL_LENGTH {
         return 0;
     }
     let r = check(file);
-    copy_words(out, &[r.number, r.file, r.step]);
+    put_refusal(out, r);
     1
 }
 
-// Where the operation bytes stand in the file: out has 2 words and gets the start and the length of their stretch, 0 and 0 of a refused
-// file.
+// Where the operation bytes stand in the file: out gets the start and the length of their stretch, 0 and 0 of a refused file.
 #[no_mangle]
 pub extern "C" fn corkbingo_operations(file: &[u8], out: &mut [u64]) -> u32
-    ensures { λ r. ⌜ (r ≡ rightLength 2 (now (out .entry))) × (now (out .exit) ≡ answered 2 (now (out .entry)) (operationWords (now (file .entry)))) ⌝ }
+    ensures { λ r. ⌜ OperationsCall (now (file .entry)) (now (out .entry)) r (now (out .exit)) ⌝ }
 {
-    if out.len() != 2 {
+    if out.len() != OPERATIONS_LENGTH {
         return 0;
     }
     let n = operations(file).len() as u64;
@@ -66,12 +62,12 @@ pub extern "C" fn corkbingo_operations(file: &[u8], out: &mut [u64]) -> u32
     1
 }
 
-// The bound L(m): out has 4 words and gets the refusal, by 2 where m is not 1 to 64, and L(m).
+// The bound L(m): out gets the refusal, by 2 where m is not 1 to 64, and L(m).
 #[no_mangle]
 pub extern "C" fn corkbingo_bound(m: u64, out: &mut [u64]) -> u32
-    ensures { λ r. ⌜ (r ≡ rightLength 4 (now (out .entry))) × (now (out .exit) ≡ answered 4 (now (out .entry)) (boundWords m)) ⌝ }
+    ensures { λ r. ⌜ BoundCall m (now (out .entry)) r (now (out .exit)) ⌝ }
 {
-    if out.len() != 4 {
+    if out.len() != BOUND_LENGTH {
         return 0;
     }
     if !within(1, 64, m) {
@@ -82,12 +78,12 @@ pub extern "C" fn corkbingo_bound(m: u64, out: &mut [u64]) -> u32
     1
 }
 
-// The grid of a file: out has 12 words and gets the refusal, the axes u1 to u8, 0 past d, and G.
+// The grid of a file: out gets the refusal, the axes, 0 past d, and G.
 #[no_mangle]
 pub extern "C" fn corkbingo_grid(file: &[u8], out: &mut [u64]) -> u32
-    ensures { λ r. ⌜ (r ≡ rightLength 12 (now (out .entry))) × (now (out .exit) ≡ answered 12 (now (out .entry)) (gridWords (now (file .entry)))) ⌝ }
+    ensures { λ r. ⌜ GridCall (now (file .entry)) (now (out .entry)) r (now (out .exit)) ⌝ }
 {
-    if out.len() != 12 {
+    if out.len() != GRID_LENGTH {
         return 0;
     }
     let r = check(file);
@@ -118,8 +114,8 @@ pub extern "C" fn corkbingo_grid(file: &[u8], out: &mut [u64]) -> u32
     1
 }
 
-// The output of a file at a vector: out has 4 words and gets the refusal and the output. Of the scratch slice the first N entries are zero
-// afterwards where the call is accepted; nothing else is touched.
+// The output of a file at a vector: out gets the refusal and the output. Of the scratch slice the first N entries are zero afterwards where
+// the call is accepted; nothing else is touched.
 #[no_mangle]
 pub extern "C" fn corkbingo_evaluate(
     file: &[u8],
@@ -127,9 +123,12 @@ pub extern "C" fn corkbingo_evaluate(
     scratch: &mut [u64],
     out: &mut [u64],
 ) -> u32
-    ensures { λ r. ⌜ (r ≡ rightLength 4 (now (out .entry))) × (now (out .exit) ≡ answered 4 (now (out .entry)) (evaluateWords (evaluatedAt (now (file .entry)) (now (vector .entry)) (length (now (scratch .entry)))))) × (now (scratch .exit) ≡ evaluateScratch (now (file .entry)) (now (vector .entry)) (now (scratch .entry)) (now (out .entry))) ⌝ }
+    ensures { λ r. ⌜
+        EvaluateCall (now (file .entry)) (now (vector .entry)) (now (scratch .entry)) (now (out .entry)) r
+        (now (scratch .exit)) (now (out .exit))
+        ⌝ }
 {
-    if out.len() != 4 {
+    if out.len() != EVALUATE_LENGTH {
         return 0;
     }
     let e = evaluate(file, vector, scratch);

@@ -2,18 +2,16 @@
 -- Assumes nothing.
 use mathlib.Core.Path.{_∙_, ap}
 use borrow.Author.Tests.{eq-eqb, ne-eqb}
-use denote.Ref.{now}
-use Rattle.exports.specs.Words.{evaluateWords, evaluateScratch}
-use Rattle.exports.proofs.Answered.{untouched, written}
+use Rattle.exports.specs.Words.{evaluateLength, evaluateWords}
 use borrow.Author.Needs.{needs}
 use Rattle.exports.proofs.corkbingo_evaluate.Statement.{statement}
 use Rattle.exports.proofs.corkbingo_evaluate.Tie as tie
 
+abbrev evaluated : tie.After-slice-known4 → tie.After-evaluate
+evaluated c = c .before .before .before .before .before .before .before .before
+
 returns : tie.Need-returns
-unfolding evaluateScratch
-returns c =
-    let w = untouched _ _ (c .if1 .taken) _ in
-    (w .0, w .1, rw (ne-eqb _ 4 (c .if1 .taken)))
+returns c = let e = ne-eqb _ evaluateLength (c .if1 .taken) in record { result = rw e; out = rw e; scratch = rw e }
 
 evaluate-requires : tie.Need-evaluate-requires
 evaluate-requires c κs = search needs
@@ -31,11 +29,14 @@ same-length-2 : tie.Need-same-length-2
 same-length-2 c = search needs
 
 returns-2 : tie.Need-returns-2
-unfolding evaluateScratch
 returns-2 c =
-    let e = c .before .before .before .before .before .before .before .before .evaluate .ensures in
-    let w = written 4 (now (c .before .before .before .before .before .before .before .before .before .before .before .before .before .before .before .args .out)) (c .before .before .before .before .before .before .before .before .before .before .if1 .left) (c .before .before .copy-words .ensures ∙ ap evaluateWords (e .0)) in
-    (w .0, w .1, rw (eq-eqb _ 4 (c .before .before .before .before .before .before .before .before .before .before .if1 .left)) (e .1))
+    let e = eq-eqb _ evaluateLength (evaluated c .before .before .if1 .left) in
+    let m = evaluated c .evaluate .ensures in
+    record {
+      result = rw e;
+      out = rw e (c .before .before .copy-words .ensures ∙ ap evaluateWords (m .0));
+      scratch = rw e (m .1);
+    }
 
 pub corkbingo-evaluate-spec : {M : Type 1} → statement M
 corkbingo-evaluate-spec =

@@ -4,16 +4,19 @@ use mathlib.Core.Path.{_≡_, _∙_, sym, ap}
 use mathlib.Core.List.{[], _∷_, _++_}
 use native.Mathlib.Omega.{arith}
 use denote.Ref.{now}
-use Rattle.file.specs.Accepted.{Accepted}
+use borrow.Author.Tests.{eq-eqb, ne-eqb}
 use Rattle.file.specs.Check.{fileNumber}
 use Rattle.file.proofs.Accepted.{accepted}
 use Rattle.file.proofs.Number.{refusal-number}
 use Rattle.grid.specs.Grid.{gridOf}
 use Rattle.grid.specs.declared.Grid.{Grid}
+use Rattle.layouts.specs.AnswerWords.{refusalWords}
+use Rattle.layouts.proofs.Entries.{all-entries}
+use Rattle.sizes.specs.Sizes.{maxInputs}
 use Rattle.sizes.specs.declared.Refusal.{Refusal}
 use Rattle.sizes.specs.declared.Sizes.{Sizes}
-use Rattle.exports.specs.Words.{refusalWords, gridAsWords}
-use Rattle.exports.proofs.Answered.{untouched, written, grid-refused, grid-accepted, eight}
+use Rattle.exports.specs.Words.{gridLength, gridAsWords, noGrid}
+use Rattle.exports.proofs.Answered.{grid-refused, grid-accepted}
 use borrow.Author.Needs.{needs}
 use Rattle.exports.proofs.corkbingo_grid.Statement.{statement}
 use Rattle.exports.proofs.corkbingo_grid.Tie as tie
@@ -21,11 +24,17 @@ use Rattle.exports.proofs.corkbingo_grid.Tie as tie
 number : (c : tie.After-check) → c .check .result .number ≡ fileNumber (now (c .before .before .before .before .args .file))
 number c = ap (λ (r : Refusal). r .number) (c .check .ensures) ∙ refusal-number _ 1
 
-rules : (c : tie.Else2) → Accepted (now (c .before .before .before .before .before .args .file))
-rules c = accepted _ (sym (number (c .before)) ∙ c .if2 .left)
+passed : (c : tie.Else2) → fileNumber (now (c .before .before .before .before .before .args .file)) ≡ 0
+passed c = sym (number (c .before)) ∙ c .if2 .left
+
+abbrev refused : tie.After-slice-known2 → tie.Then2
+refused c = c .before .before .before .before .before
+
+abbrev taken : tie.After-slice-known3 → tie.After-grid-of
+taken c = c .before .before .before .before .before .before
 
 returns : tie.Need-returns
-returns c = untouched _ _ (c .if1 .taken) _
+returns c = let e = ne-eqb _ gridLength (c .if1 .taken) in record { result = rw e; out = rw e }
 
 check-requires : tie.Need-check-requires
 check-requires c κs = search needs
@@ -41,17 +50,22 @@ same-length c = search needs
 
 returns-2 : tie.Need-returns-2
 returns-2 c =
-    written 12 (now (c .before .before .before .before .before .before .before .before .before .before .args .out)) (c .before .before .before .before .before .before .before .if1 .left)
-    (c .before .before .copy-words .ensures
-    ∙ ap (λ r. refusalWords r ++ (0 ∷ 0 ∷ 0 ∷ 0 ∷ 0 ∷ 0 ∷ 0 ∷ 0 ∷ 0 ∷ [])) (c .before .before .before .before .before .before .check .ensures)
-    ∙ sym (grid-refused _ (λ e. c .before .before .before .before .before .if2 .taken (number (c .before .before .before .before .before .before) ∙ e))))
+    let e = eq-eqb _ gridLength (refused c .before .before .if1 .left) in
+    record {
+      result = rw e;
+      out =
+          rw e
+          (c .before .before .copy-words .ensures
+          ∙ ap (λ r. refusalWords r ++ noGrid) (refused c .before .check .ensures)
+          ∙ sym (grid-refused _ (λ n. refused c .if2 .taken (number (refused c .before) ∙ n))));
+    }
 
 read-sizes-requires : tie.Need-read-sizes-requires
-read-sizes-requires c κs = rules c .long
+read-sizes-requires c κs = accepted _ (passed c) .long
 
 grid-of-requires : tie.Need-grid-of-requires
 grid-of-requires c κs =
-    let a = rules (c .before) in
+    let a = accepted _ (passed (c .before)) in
     let z = c .read-sizes .ensures in (
       (omega (arith, a .outputLow, ap (λ (z : Sizes). z .m) z), omega (arith, a .outputHigh, ap (λ (z : Sizes). z .m) z)),
       omega (arith, a .inputsHigh, ap (λ (z : Sizes). z .d) z),
@@ -92,12 +106,17 @@ same-length-2 c = search needs
 
 returns-3 : tie.Need-returns-3
 returns-3 c =
-    let g = c .before .before .before .before .before .before .grid-of in
-    written 12 (now (c .before .before .before .before .before .before .before .before .before .before .before .before .before .args .out)) (c .before .before .before .before .before .before .before .before .before .before .if1 .left)
-    (c .before .before .copy-words2 .ensures
-    ∙ ap (λ l. 0 ∷ 0 ∷ 0 ∷ l) (eight (g .result .axes) (g .result .size ∷ []) (search needs))
-    ∙ ap (λ (g : Grid). 0 ∷ 0 ∷ 0 ∷ gridAsWords g) (g .ensures ∙ ap gridOf (c .before .before .before .before .before .before .before .read-sizes .ensures))
-    ∙ sym (grid-accepted _ (sym (number (c .before .before .before .before .before .before .before .before .before)) ∙ c .before .before .before .before .before .before .before .before .if2 .left)))
+    let e = eq-eqb _ gridLength (taken c .before .before .before .before .if1 .left) in
+    let g = taken c .grid-of in
+    record {
+      result = rw e;
+      out =
+          rw e
+          (c .before .before .copy-words2 .ensures
+          ∙ ap (λ l. 0 ∷ 0 ∷ 0 ∷ l) (all-entries maxInputs (g .result .axes) (g .result .size ∷ []) (search needs))
+          ∙ ap (λ (g : Grid). 0 ∷ 0 ∷ 0 ∷ gridAsWords g) (g .ensures ∙ ap gridOf (taken c .before .read-sizes .ensures))
+          ∙ sym (grid-accepted _ (passed (taken c .before .before))));
+    }
 
 pub corkbingo-grid-spec : {M : Type 1} → statement M
 corkbingo-grid-spec =

@@ -3,14 +3,18 @@
 use mathlib.Core.Path.{_∙_, ap}
 use mathlib.Core.Logic.{inl, inr, ⊎-elim}
 use lib.ListN.{length}
-use denote.Ref.{now}
-use Rattle.exports.proofs.Answered.{untouched, written, operations-told}
+use borrow.Author.Tests.{eq-eqb, ne-eqb}
+use Rattle.exports.specs.Words.{operationsLength}
+use Rattle.exports.proofs.Answered.{operations-told}
 use borrow.Author.Needs.{needs}
 use Rattle.exports.proofs.corkbingo_operations.Statement.{statement}
 use Rattle.exports.proofs.corkbingo_operations.Tie as tie
 
+abbrev found : tie.After-slice-known2 → tie.After-operations
+found c = c .before .before .before .before .before .before
+
 returns : tie.Need-returns
-returns c = untouched _ _ (c .if1 .taken) _
+returns c = let e = ne-eqb _ operationsLength (c .if1 .taken) in record { result = rw e; out = rw e }
 
 operations-requires : tie.Need-operations-requires
 operations-requires c κs = search needs
@@ -26,7 +30,14 @@ same-length c = search needs
 
 returns-2 : tie.Need-returns-2
 returns-2 c =
-    written 2 (now (c .before .before .before .before .before .before .before .before .before .before .args .out)) (c .before .before .before .before .before .before .before .if1 .left) (c .before .before .copy-words .ensures ∙ operations-told _ _ _ (ap length (c .before .before .before .before .before .before .operations .ensures .contents)) (⊎-elim (λ w. inl (w .0 .taken, w .1)) (λ w. inr (w .0 .left, w .1)) (c .before .before .before .before .before .if2 .came)))
+    let e = eq-eqb _ operationsLength (found c .before .if1 .left) in
+    record {
+      result = rw e;
+      out =
+          rw e
+          (c .before .before .copy-words .ensures ∙ operations-told _ _ _ (ap length (found c .operations .ensures .contents))
+          (⊎-elim (λ w. inl (w .0 .taken, w .1)) (λ w. inr (w .0 .left, w .1)) (c .before .before .before .before .before .if2 .came)));
+    }
 
 pub corkbingo-operations-spec : {M : Type 1} → statement M
 corkbingo-operations-spec =

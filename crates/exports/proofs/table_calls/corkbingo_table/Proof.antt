@@ -2,22 +2,23 @@
 -- Assumes nothing.
 use mathlib.Core.Path.{_∙_, ap}
 use borrow.Author.Tests.{eq-eqb, ne-eqb}
-use Rattle.exports.specs.Words.{refusalWords}
+use Rattle.layouts.specs.AnswerWords.{refusalWords}
+use Rattle.layouts.specs.Lengths.{refusalLength}
 use borrow.Author.Needs.{needs}
 use Rattle.exports.proofs.table_calls.corkbingo_table.Statement.{statement}
 use Rattle.exports.proofs.table_calls.corkbingo_table.Tie as tie
 
+abbrev made : tie.After-slice-known6 → tie.After-make-table
+made c = c .before .before .before .before .before .before .before .before
+
 returns : tie.Need-returns
-returns c = let e = ne-eqb _ 3 (c .if1 .taken) in (rw e, rw e, rw e, rw e)
+returns c = let e = ne-eqb _ refusalLength (c .if1 .taken) in record { result = rw e; out = rw e; table = rw e; scratch = rw e }
 
 make-table-requires : tie.Need-make-table-requires
 make-table-requires c κs = search needs
 
-slice-aggregate-copy-words : tie.Need-slice-aggregate-copy-words
-slice-aggregate-copy-words c = search needs
-
-copy-words-requires : tie.Need-copy-words-requires
-copy-words-requires c κs = search needs
+put-refusal-requires : tie.Need-put-refusal-requires
+put-refusal-requires c κs = search needs
 
 same-length : tie.Need-same-length
 same-length c = search needs
@@ -30,9 +31,14 @@ same-length-3 c = search needs
 
 returns-2 : tie.Need-returns-2
 returns-2 c =
-    let e = eq-eqb _ 3 (c .before .before .before .before .before .before .before .before .before .before .before .before .if1 .left) in
-    let m = c .before .before .before .before .before .before .before .before .before .make-table .ensures in
-    (rw e, rw e (c .before .before .copy-words .ensures ∙ ap refusalWords (m .0)), rw e (m .1), rw e (m .2))
+    let e = eq-eqb _ refusalLength (made c .before .before .before .if1 .left) in
+    let m = made c .make-table .ensures in
+    record {
+      result = rw e;
+      out = rw e (c .before .before .put-refusal .ensures ∙ ap refusalWords (m .0));
+      table = rw e (m .1);
+      scratch = rw e (m .2);
+    }
 
 pub corkbingo-table-spec : {M : Type 1} → statement M
 corkbingo-table-spec =
@@ -40,8 +46,7 @@ corkbingo-table-spec =
     (tie.spec
     returns
     make-table-requires
-    slice-aggregate-copy-words
-    copy-words-requires
+    put-refusal-requires
     same-length
     same-length-2
     same-length-3

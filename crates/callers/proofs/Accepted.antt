@@ -1,0 +1,305 @@
+-- What a call that returned 1 answers, for a caller in C. The result tells that the layout was right, so that the answer slice holds the
+-- library's answer as words; each law is then read off the words. Demand 2 is the library's, of the slices that the calls wrote. Assumes nothing.
+use mathlib.Core.Bool.{Bool, true, false}
+use mathlib.Core.List.{List, [], _∷_, _++_, append-assoc}
+use mathlib.Core.Logic.{inl, inr}
+use mathlib.Core.Path.{_≡_, refl, sym, _∙_, ap, subst}
+use Prim.Native.Nat.{ℕ, _+_, _-_, _≤_, _<_}
+use native.Mathlib.Decide.{ℕ-discrete}
+use native.Mathlib.Omega.{arith}
+use lib.ListN.{length, getD, take, drop, replicate, length-map, length-take, length-append, length-replicate, List·getD-append, List·getD-eq-default}
+use lib.Seq.{take-at, getD-at, getD-drop}
+use borrow.Author.Tests.{eq-eqb, ne-eqb, le-leb}
+use Rattle.bound.specs.Bound.{IsBound, bound}
+use Rattle.bound.proofs.Least.{leastBound}
+use Rattle.evaluate.specs.Evaluate.{refusalAt, evaluatedAt, scratchAfter}
+use Rattle.evaluate.specs.declared.Evaluated.{Evaluated as Answer}
+use Rattle.evaluate.proofs.Answers.{answer-accepted}
+use Rattle.exports.specs.FileCalls.{CheckCall, OperationsCall, BoundCall, GridCall, EvaluateCall}
+use Rattle.exports.specs.Layout.{has, returned, leaves}
+use Rattle.exports.specs.TableCalls.{cellsFit, TableCall, DifferenceCall, SumCall}
+use Rattle.exports.specs.Words.{operationWords, boundWords, gridWords, evaluateWords}
+use Rattle.exports.proofs.Answered.{grid-refused, grid-accepted, bound-refused, bound-accepted}
+use Rattle.file.specs.Accepted.{Accepted}
+use Rattle.file.specs.Check.{fileNumber, refusalOf}
+use Rattle.file.specs.File.{sizesOf, stepCount}
+use Rattle.file.proofs.Accepted.{accepted as file-accepted}
+use Rattle.file.proofs.Number.{refusal-number}
+use Rattle.grid.specs.Grid.{axesOf, gridSize, gridOf}
+use Rattle.layouts.specs.AnswerWords.{refusalWords}
+use Rattle.layouts.specs.Lengths.{word}
+use Rattle.layouts.specs.SizeWords.{sizeWords, sizesFrom}
+use Rattle.layouts.proofs.Sessions.{file-widths, file-bytes}
+use Rattle.layouts.proofs.Sizes.{sizesAsWords}
+use Rattle.search.proofs.Search.{true-or-false}
+use Rattle.sizes.specs.Sizes.{within, accepted}
+use Rattle.sizes.specs.declared.Refusal.{Refusal}
+use Rattle.sizes.specs.declared.Sizes.{Sizes}
+use Rattle.sizes.proofs.Ranges.{within-range}
+use Rattle.tables.specs.Demand2.{Holds}
+use Rattle.tables.specs.Tables.{tableRefusal, cellsRefusal, madeTable, tableScratch, differenced, summedUp}
+use Rattle.tables.proofs.Answers.{passed, at-0, fits, made, table-0, table-accepted, scratch-accepted}
+use Rattle.tables.proofs.Demand2.{sumOfMade, differenceOfSum, sumOfDifference}
+use Rattle.vectors.proofs.Held.{held-entry}
+use Rattle.callers.specs.AcceptedInC.{Checked, Stretched, From1To64, Bounded, Gridded, Evaluated, Tabled, Written, SumOfTableInC, DifferenceOfSumInC, SumOfDifferenceInC, AcceptedInC}
+use Rattle.callers.proofs.Refused.{right-told, right-left}
+use Rattle.callers.proofs.Sound.{number-0}
+
+-- what a call that returned 1 wrote
+wrote : (b : Bool) (after before slice : List ℕ) → 1 ≡ returned b → slice ≡ leaves b after before → slice ≡ after
+wrote b after before slice r e = right-left b after before slice e (right-told 1 b r refl)
+
+-- the first word of a list, and the number of a refusal
+first : {w v : List ℕ} → w ≡ v → word w 0 ≡ word v 0
+first e = ap (λ l. word l 0) e
+
+number-of : {r q : Refusal} → r ≡ q → r .number ≡ q .number
+number-of e = ap (λ (r : Refusal). r .number) e
+
+module _ (f o o′ : List ℕ) (h : CheckCall f o 1 o′) where
+  check-said : o′ ≡ refusalWords (refusalOf 1 f)
+  check-said = wrote (has 3 o) _ o o′ (h .result) (h .out)
+
+  checked-number : word o′ 0 ≡ fileNumber f
+  checked-number = first check-said ∙ refusal-number f 1
+
+  checked : Checked f o′
+  checked =
+      record {
+        number = checked-number;
+        sound = (λ e. file-accepted f (sym checked-number ∙ e), λ a. checked-number ∙ number-0 f a);
+      }
+
+module _ (f o o′ : List ℕ) (h : OperationsCall f o 1 o′) where
+  operations-said : o′ ≡ operationWords f
+  operations-said = wrote (has 2 o) _ o o′ (h .result) (h .out)
+
+  stretch-said : fileNumber f ≡ 0 → o′ ≡ 12 ∷ stepCount f ∷ []
+  unfolding operationWords
+  stretch-said e = operations-said ∙ rw (eq-eqb (fileNumber f) 0 e)
+
+  no-stretch : ¬ (fileNumber f ≡ 0) → o′ ≡ 0 ∷ 0 ∷ []
+  unfolding operationWords
+  no-stretch n = operations-said ∙ rw (ne-eqb (fileNumber f) 0 n)
+
+  stretched : Stretched f o′
+  stretched =
+      record {
+        start = λ e. first (stretch-said e);
+        count = λ e. ap (λ l. word l 1) (stretch-said e);
+        none = no-stretch;
+      }
+
+module _ (m : ℕ) (o o′ : List ℕ) (h : BoundCall m o 1 o′) where
+  bound-said : o′ ≡ boundWords m
+  bound-said = wrote (has 4 o) _ o o′ (h .result) (h .out)
+
+  inside-said : From1To64 m → o′ ≡ 0 ∷ 0 ∷ 0 ∷ bound m ∷ []
+  inside-said r = bound-said ∙ bound-accepted m (rw (le-leb 1 m (r .low)) (le-leb m 64 (r .high)))
+
+  outside-said : within 1 64 m ≡ false → o′ ≡ 2 ∷ 0 ∷ 0 ∷ 0 ∷ []
+  outside-said e = bound-said ∙ bound-refused m e
+
+  inside : within 1 64 m ≡ true → From1To64 m
+  inside e = let p = within-range 1 64 m e in record { low = p .0; high = p .1 }
+
+  in-range : word o′ 0 ≡ 0 → From1To64 m
+  in-range z =
+      elim (true-or-false (within 1 64 m)) [
+        | inl e ↦ inside e
+        | inr e ↦ absurd (omega (arith, z, first (outside-said e)))
+      ]
+
+  outside : ¬ From1To64 m → o′ ≡ 2 ∷ 0 ∷ 0 ∷ 0 ∷ []
+  outside n =
+      elim (true-or-false (within 1 64 m)) [
+        | inl e ↦ absurd (n (inside e))
+        | inr e ↦ outside-said e
+      ]
+
+  bounded : Bounded m o′
+  bounded =
+      record {
+        range = (in-range, λ r. first (inside-said r));
+        least = λ z. let r = in-range z in
+            subst (IsBound m) (sym (ap (λ l. word l 3) (inside-said r))) (leastBound m (r .low) (r .high));
+        outside = outside;
+      }
+
+module _ (f o o′ : List ℕ) (h : GridCall f o 1 o′) where
+  grid-said : o′ ≡ gridWords f
+  grid-said = wrote (has 12 o) _ o o′ (h .result) (h .out)
+
+  grid-number : word o′ 0 ≡ fileNumber f
+  grid-number =
+      elim (ℕ-discrete (fileNumber f) 0) [
+        | yes e ↦ first (grid-said ∙ grid-accepted f e) ∙ sym e
+        | no n ↦ first (grid-said ∙ grid-refused f n) ∙ refusal-number f 1
+      ]
+
+  no-grid : ¬ (word o′ 0 ≡ 0) → drop 3 o′ ≡ replicate 9 0
+  no-grid n = ap (drop 3) (grid-said ∙ grid-refused f (λ e. n (grid-number ∙ e)))
+
+  module _ (zero : word o′ 0 ≡ 0) where
+    abbrev us : List ℕ
+    us = axesOf (sizesOf f)
+
+    abbrev zeros : List ℕ
+    zeros = replicate (8 - sizesOf f .d) 0
+
+    sound : Accepted f
+    sound = file-accepted f (sym grid-number ∙ zero)
+
+    grid-words : o′ ≡ 0 ∷ 0 ∷ 0 ∷ ((us ++ zeros) ++ (gridSize (sizesOf f) ∷ []))
+    unfolding gridOf
+    grid-words = grid-said ∙ grid-accepted f (sym grid-number ∙ zero)
+
+    axes-count : length us ≡ sizesOf f .d
+    unfolding axesOf
+    axes-count = simp (length-map, length-take) (omega (arith, file-widths f (sound .long), sound .inputsHigh))
+
+    eight : length (us ++ zeros) ≡ 8
+    eight = rw (length-append, length-replicate, axes-count) (omega (arith, sound .inputsHigh))
+
+    axes-first : take (sizesOf f .d) (drop 3 o′) ≡ us
+    axes-first =
+        ap (λ l. take (sizesOf f .d) (drop 3 l)) grid-words
+        ∙ ap (take (sizesOf f .d)) (append-assoc us zeros (gridSize (sizesOf f) ∷ []))
+        ∙ take-at us _ (sizesOf f .d) axes-count
+
+    others-zero : (i : ℕ) → sizesOf f .d ≤ i → i < 8 → word o′ (3 + i) ≡ 0
+    others-zero i low high =
+        sym (getD-drop 3 o′ i 0)
+        ∙ ap (λ l. getD (drop 3 l) i 0) grid-words
+        ∙ List·getD-append (us ++ zeros) (gridSize (sizesOf f) ∷ []) 0 i (omega (arith, eight))
+        ∙ ap (λ k. getD (us ++ replicate (8 - k) 0) i 0) (sym axes-count)
+        ∙ held-entry us i
+        ∙ List·getD-eq-default us 0 (omega (arith, axes-count))
+
+    size-last : word o′ 11 ≡ gridSize (sizesOf f)
+    size-last = ap (λ l. word l 11) grid-words ∙ getD-at (us ++ zeros) (gridSize (sizesOf f)) [] 0 8 eight
+
+  gridded : Gridded f o′
+  gridded =
+      record { number = grid-number; axes = axes-first; others = others-zero; size = size-last; none = no-grid }
+
+module _ (f x s o s′ o′ : List ℕ) (h : EvaluateCall f x s o 1 s′ o′) (zero : word o′ 0 ≡ 0) where
+  evaluate-said : o′ ≡ evaluateWords (evaluatedAt f x (length s))
+  evaluate-said = wrote (has 4 o) _ o o′ (h .result) (h .out)
+
+  evaluate-number : refusalAt f x (length s) .number ≡ 0
+  unfolding evaluatedAt
+  evaluate-number = sym (first evaluate-said) ∙ zero
+
+  evaluated : Evaluated f x s s′ o′
+  evaluated =
+      let p = answer-accepted f x s evaluate-number in
+      record {
+        output = ap (λ l. word l 3) evaluate-said ∙ ap (λ (a : Answer). a .output) (sym (p .0));
+        scratch = wrote (has 4 o) (scratchAfter f x s) s s′ (h .result) (h .scratch) ∙ sym (p .1);
+      }
+
+module _ (f s t o s′ t′ o′ : List ℕ) (h : TableCall f s t o 1 s′ t′ o′) (zero : word o′ 0 ≡ 0) where
+  table-answer : o′ ≡ refusalWords (tableRefusal f (length s) (length t))
+  table-answer = wrote (has 3 o) _ o o′ (h .result) (h .out)
+
+  table-number : tableRefusal f (length s) (length t) .number ≡ 0
+  table-number = sym (first table-answer) ∙ zero
+
+  table-said : t′ ≡ madeTable f (length s) t
+  table-said = wrote (has 3 o) _ t t′ (h .result) (h .table)
+
+  table-passed : tableRefusal f (length s) (length t) ≡ accepted
+  table-passed =
+      let m = made f (length s) (length t) table-number in
+      table-0 f (length s) (length t) (m .sound) (m .steps) (m .cells)
+
+  file-back : sizesFrom (sizeWords (sizesOf f)) ≡ sizesOf f
+  file-back =
+      sizesAsWords .decoded (sizesOf f)
+      (file-bytes f (file-accepted f (made f (length s) (length t) table-number .sound)))
+
+  tabled : Tabled f s t s′ t′
+  tabled =
+      record {
+        table = table-said ∙ table-accepted f (length s) t table-number;
+        scratch =
+            wrote (has 3 o) (tableScratch f s (length t)) s s′ (h .result) (h .scratch) ∙ scratch-accepted f s t table-number;
+      }
+
+-- a second call, of the cells c that a first one wrote
+module _ (z x y q y′ q′ : List ℕ) (v : Sizes) (c w : List ℕ) (same : sizesFrom z ≡ v) (given : x ≡ c) where
+  refusal-same : cellsRefusal (sizesFrom z) x (length y) ≡ cellsRefusal v c (length y)
+  refusal-same =
+      ap (λ (k : Sizes). cellsRefusal k x (length y)) same ∙ ap (λ (k : List ℕ). cellsRefusal v k (length y)) given
+
+  summed-next :
+      SumCall z x y q 1 y′ q′ → cellsRefusal v c (length y) ≡ accepted → Holds v w y (summedUp v c y) → Written v w y y′ q′
+  summed-next k e p =
+      record {
+        number = first (wrote (cellsFit z q) (refusalWords (cellsRefusal (sizesFrom z) x (length y))) q q′ (k .result) (k .out)) ∙ number-of (refusal-same ∙ e);
+        entries =
+            wrote (cellsFit z q) (summedUp (sizesFrom z) x y) y y′ (k .result) (k .outputs)
+            ∙ ap (λ (j : Sizes). summedUp j x y) same
+            ∙ ap (λ (j : List ℕ). summedUp v j y) given
+            ∙ p;
+      }
+
+  differenced-next :
+      DifferenceCall z x y q 1 y′ q′ → cellsRefusal v c (length y) ≡ accepted → Holds v w y (differenced v c y) → Written v w y y′ q′
+  differenced-next k e p =
+      record {
+        number = first (wrote (cellsFit z q) (refusalWords (cellsRefusal (sizesFrom z) x (length y))) q q′ (k .result) (k .out)) ∙ number-of (refusal-same ∙ e);
+        entries =
+            wrote (cellsFit z q) (differenced (sizesFrom z) x y) y y′ (k .result) (k .table)
+            ∙ ap (λ (j : Sizes). differenced j x y) same
+            ∙ ap (λ (j : List ℕ). differenced v j y) given
+            ∙ p;
+      }
+
+-- a call of which the number is 0 is accepted
+cells-passed : (z : Sizes) (cells : List ℕ) (len : ℕ) → cellsRefusal z cells len .number ≡ 0 → cellsRefusal z cells len ≡ accepted
+cells-passed z cells len e =
+    let p = passed z cells len e in
+    at-0 z cells len (p .output) (p .inputs) (p .widths) (fits z cells len (p .fits))
+
+sum-of-table : SumOfTableInC
+sum-of-table f s t o s′ t′ o′ h zero y q y′ q′ k room =
+    let p = sumOfMade f (length s) t y (table-passed f s t o s′ t′ o′ h zero) room in
+    summed-next (sizeWords (sizesOf f)) t′ y q y′ q′ (sizesOf f) (madeTable f (length s) t) _
+    (file-back f s t o s′ t′ o′ h zero) (table-said f s t o s′ t′ o′ h zero) k (p .0) (p .1)
+
+-- a first call that is accepted
+first-passed :
+    (z x y o o′ : List ℕ) → 1 ≡ returned (cellsFit z o) →
+    o′ ≡ leaves (cellsFit z o) (refusalWords (cellsRefusal (sizesFrom z) x (length y))) o → word o′ 0 ≡ 0 →
+    cellsRefusal (sizesFrom z) x (length y) ≡ accepted
+first-passed z x y o o′ r e zero =
+    let said = wrote (cellsFit z o) (refusalWords (cellsRefusal (sizesFrom z) x (length y))) o o′ r e in
+    cells-passed (sizesFrom z) x (length y) (sym (first said) ∙ zero)
+
+difference-of-sum : DifferenceOfSumInC
+difference-of-sum z t y o y′ o′ h zero u q u′ q′ k room =
+    let p = differenceOfSum (sizesFrom z) t y u (first-passed z t y o o′ (h .result) (h .out) zero) room in
+    differenced-next z y′ u q u′ q′ (sizesFrom z) (summedUp (sizesFrom z) t y) _ refl
+    (wrote (cellsFit z o) _ y y′ (h .result) (h .outputs)) k (p .0) (p .1)
+
+sum-of-difference : SumOfDifferenceInC
+sum-of-difference z y t o t′ o′ h zero u q u′ q′ k room =
+    let p = sumOfDifference (sizesFrom z) y t u (first-passed z y t o o′ (h .result) (h .out) zero) room in
+    summed-next z t′ u q u′ q′ (sizesFrom z) (differenced (sizesFrom z) y t) _ refl
+    (wrote (cellsFit z o) _ t t′ (h .result) (h .table)) k (p .0) (p .1)
+
+pub acceptedInC : AcceptedInC
+acceptedInC =
+    record {
+      checking = checked;
+      operations = stretched;
+      bound = bounded;
+      grid = gridded;
+      evaluating = evaluated;
+      making = tabled;
+      sumOfTable = sum-of-table;
+      differenceOfSum = difference-of-sum;
+      sumOfDifference = sum-of-difference;
+    }

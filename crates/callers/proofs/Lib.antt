@@ -1,0 +1,6 @@
+pub mod Accepted
+pub mod Demand3
+pub mod Mirror
+pub mod Refused
+pub mod Report
+pub mod Sound

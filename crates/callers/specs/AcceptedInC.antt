@@ -1,0 +1,128 @@
+-- What a call that returned 1 answers, for a caller in C, of any words that a C function's contract holds of; the places of the words are the
+-- header's numbers. It is proved in proofs/, as acceptedInC. The parameters are those of the contracts: what was given and lent, and the
+-- slices at exit (with a ′). Word 0 of an answer is the number word; the call is accepted where it is 0.
+--   Checked f o′         of corkbingo_check:
+--     number       the number word is the file's number: that of the first condition of 1 to 8 that it meets, or 0
+--     sound        it is 0 exactly where the file keeps all rules of a file
+--   Stretched f o′       of corkbingo_operations:
+--     start, count where the file is accepted, the words are 12 and N
+--     none         of a refused file they are 0 and 0
+--   Bounded m o′         of corkbingo_bound:
+--     range        the number word is 0 exactly where m is from 1 to 64
+--     least        where it is 0, word 3 is the least number whose factorial is divisible by 2^m
+--     outside      otherwise the number word is 2, and the others are 0
+--   Gridded f o′         of corkbingo_grid:
+--     number       the number word is the file's number
+--     axes         where it is 0, the first d words from word 3 on are the axes
+--     others       the other words of the eight from word 3 on are 0
+--     size         and word 11 is G
+--     none         in a refusal all words from word 3 on are 0
+--   Evaluated f x s s′ o′     of corkbingo_evaluate, where the number word is 0:
+--     output       word 3 is the output of the file at the vector x
+--     scratch      the first N scratch entries are 0, and the others as at entry
+--   Tabled f s t s′ t′   of corkbingo_table, where the number word is 0:
+--     table        the first G entries of the table slice are the file's difference table, and the others as at entry
+--     scratch      the first N scratch entries are 0, and the others as at entry
+--   Written z w y y′ q′  a call is accepted with the answer q′; the first G entries of the slice y are then the list w, and the others as at entry
+-- Demand 2, of two calls of which the second reads what an accepted first one wrote, and lends a slice with room for G entries:
+--   SumOfTableInC        corkbingo_sum of what corkbingo_table wrote, with the file's sizes as words, writes the file's outputs on the grid
+--   DifferenceOfSumInC   corkbingo_difference of what corkbingo_sum wrote writes the first G entries that were summed
+--   SumOfDifferenceInC   corkbingo_sum of what corkbingo_difference wrote writes the first G entries that were differenced
+use mathlib.Core.List.{List, [], _∷_, _++_}
+use mathlib.Core.Logic.{_↔_}
+use mathlib.Core.Path.{_≡_}
+use Prim.Native.Nat.{ℕ, _+_, _≤_, _<_}
+use lib.ListN.{length, take, drop, replicate}
+use Rattle.bound.specs.Bound.{IsBound}
+use Rattle.differences.specs.Table.{listed}
+use Rattle.evaluate.specs.Evaluate.{outputOf}
+use Rattle.exports.specs.FileCalls.{CheckCall, OperationsCall, BoundCall, GridCall, EvaluateCall}
+use Rattle.exports.specs.TableCalls.{TableCall, DifferenceCall, SumCall}
+use Rattle.file.specs.Accepted.{Accepted}
+use Rattle.file.specs.Check.{fileNumber}
+use Rattle.file.specs.File.{sizesOf, stepCount}
+use Rattle.grid.specs.Grid.{axesOf, gridSize}
+use Rattle.layouts.specs.Lengths.{word}
+use Rattle.layouts.specs.SizeWords.{sizeWords, sizesFrom}
+use Rattle.sizes.specs.declared.Sizes.{Sizes}
+use Rattle.tables.specs.Tables.{tableOfFile}
+
+pub record Checked (f o′ : List ℕ) : Type 0 where
+  pub number : word o′ 0 ≡ fileNumber f
+  pub sound : (word o′ 0 ≡ 0) ↔ Accepted f
+
+pub record Stretched (f o′ : List ℕ) : Type 0 where
+  pub start : fileNumber f ≡ 0 → word o′ 0 ≡ 12
+  pub count : fileNumber f ≡ 0 → word o′ 1 ≡ stepCount f
+  pub none : ¬ (fileNumber f ≡ 0) → o′ ≡ 0 ∷ 0 ∷ []
+
+-- m is an output word length
+pub record From1To64 (m : ℕ) : Type 0 where
+  pub low : 1 ≤ m
+  pub high : m ≤ 64
+
+pub record Bounded (m : ℕ) (o′ : List ℕ) : Type 0 where
+  pub range : (word o′ 0 ≡ 0) ↔ From1To64 m
+  pub least : word o′ 0 ≡ 0 → IsBound m (word o′ 3)
+  pub outside : ¬ From1To64 m → o′ ≡ 2 ∷ 0 ∷ 0 ∷ 0 ∷ []
+
+pub record Gridded (f o′ : List ℕ) : Type 0 where
+  pub number : word o′ 0 ≡ fileNumber f
+  pub axes : word o′ 0 ≡ 0 → take (sizesOf f .d) (drop 3 o′) ≡ axesOf (sizesOf f)
+  pub others : word o′ 0 ≡ 0 → (i : ℕ) → sizesOf f .d ≤ i → i < 8 → word o′ (3 + i) ≡ 0
+  pub size : word o′ 0 ≡ 0 → word o′ 11 ≡ gridSize (sizesOf f)
+  pub none : ¬ (word o′ 0 ≡ 0) → drop 3 o′ ≡ replicate 9 0
+
+pub record Evaluated (f x s s′ o′ : List ℕ) : Type 0 where
+  pub output : word o′ 3 ≡ outputOf f x
+  pub scratch : s′ ≡ replicate (stepCount f) 0 ++ drop (stepCount f) s
+
+pub record Tabled (f s t s′ t′ : List ℕ) : Type 0 where
+  pub table : t′ ≡ tableOfFile f ++ drop (gridSize (sizesOf f)) t
+  pub scratch : s′ ≡ replicate (stepCount f) 0 ++ drop (stepCount f) s
+
+pub record Written (z : Sizes) (w y y′ q′ : List ℕ) : Type 0 where
+  pub number : word q′ 0 ≡ 0
+  pub entries : y′ ≡ w ++ drop (gridSize z) y
+
+abbrev pub SumOfTableInC : Type 0
+SumOfTableInC =
+    (f s t o s′ t′ o′ : List ℕ) →
+    TableCall f s t o 1 s′ t′ o′ →
+    word o′ 0 ≡ 0 →
+    (y q y′ q′ : List ℕ) →
+    SumCall (sizeWords (sizesOf f)) t′ y q 1 y′ q′ →
+    gridSize (sizesOf f) ≤ length y →
+    Written (sizesOf f) (listed (axesOf (sizesOf f)) (outputOf f)) y y′ q′
+
+abbrev pub DifferenceOfSumInC : Type 0
+DifferenceOfSumInC =
+    (z t y o y′ o′ : List ℕ) →
+    SumCall z t y o 1 y′ o′ →
+    word o′ 0 ≡ 0 →
+    (u q u′ q′ : List ℕ) →
+    DifferenceCall z y′ u q 1 u′ q′ →
+    gridSize (sizesFrom z) ≤ length u →
+    Written (sizesFrom z) (take (gridSize (sizesFrom z)) t) u u′ q′
+
+abbrev pub SumOfDifferenceInC : Type 0
+SumOfDifferenceInC =
+    (z y t o t′ o′ : List ℕ) →
+    DifferenceCall z y t o 1 t′ o′ →
+    word o′ 0 ≡ 0 →
+    (u q u′ q′ : List ℕ) →
+    SumCall z t′ u q 1 u′ q′ →
+    gridSize (sizesFrom z) ≤ length u →
+    Written (sizesFrom z) (take (gridSize (sizesFrom z)) y) u u′ q′
+
+pub record AcceptedInC : Type 0 where
+  pub checking : (f o o′ : List ℕ) → CheckCall f o 1 o′ → Checked f o′
+  pub operations : (f o o′ : List ℕ) → OperationsCall f o 1 o′ → Stretched f o′
+  pub bound : (m : ℕ) (o o′ : List ℕ) → BoundCall m o 1 o′ → Bounded m o′
+  pub grid : (f o o′ : List ℕ) → GridCall f o 1 o′ → Gridded f o′
+  pub evaluating :
+      (f x s o s′ o′ : List ℕ) → EvaluateCall f x s o 1 s′ o′ → word o′ 0 ≡ 0 → Evaluated f x s s′ o′
+  pub making : (f s t o s′ t′ o′ : List ℕ) → TableCall f s t o 1 s′ t′ o′ → word o′ 0 ≡ 0 → Tabled f s t s′ t′
+  pub sumOfTable : SumOfTableInC
+  pub differenceOfSum : DifferenceOfSumInC
+  pub sumOfDifference : SumOfDifferenceInC

@@ -1,0 +1,5 @@
+pub mod AcceptedInC
+pub mod Demand3InC
+pub mod Made
+pub mod RefusedInC
+pub mod ReportInC

@@ -1,0 +1,6 @@
+pub mod Answers
+pub mod Entries
+pub mod Offsets
+pub mod Sessions
+pub mod Sizes
+pub mod Told

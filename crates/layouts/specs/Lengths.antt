@@ -1,0 +1,64 @@
+-- The layouts of words, as C callers get and give them: how many words each has, and where each word stands.
+--   sizes      m, d, n1 to the last word length
+--   session    the sizes, position, mark
+--   refusal    number (0: accepted), file, step
+--   answer     the refusal, kind, vectors run, x1 to the last input's value, output of file 1, output of file 2
+-- There are maxInputs word lengths and as many values. `word w i` is the word at place i, and 0 past the end.
+use mathlib.Core.List.{List}
+use Prim.Native.Nat.{ℕ, _+_}
+use lib.ListN.{getD}
+use Rattle.sizes.specs.Sizes.{maxInputs}
+
+abbrev pub word : List ℕ → ℕ → ℕ
+word w i = getD w i 0
+
+abbrev pub atM : ℕ
+atM = 0
+
+abbrev pub atD : ℕ
+atD = 1
+
+abbrev pub atWidths : ℕ
+atWidths = 2
+
+abbrev pub sizesLength : ℕ
+sizesLength = maxInputs + 2
+
+abbrev pub atPosition : ℕ
+atPosition = maxInputs + 2
+
+abbrev pub atMark : ℕ
+atMark = maxInputs + 3
+
+abbrev pub sessionLength : ℕ
+sessionLength = maxInputs + 4
+
+abbrev pub atNumber : ℕ
+atNumber = 0
+
+abbrev pub atFile : ℕ
+atFile = 1
+
+abbrev pub atStep : ℕ
+atStep = 2
+
+abbrev pub refusalLength : ℕ
+refusalLength = 3
+
+abbrev pub atKind : ℕ
+atKind = 3
+
+abbrev pub atRun : ℕ
+atRun = 4
+
+abbrev pub atVector : ℕ
+atVector = 5
+
+abbrev pub atOutput₁ : ℕ
+atOutput₁ = maxInputs + 5
+
+abbrev pub atOutput₂ : ℕ
+atOutput₂ = maxInputs + 6
+
+abbrev pub answerLength : ℕ
+answerLength = maxInputs + 7

@@ -1,0 +1,5 @@
+pub mod AnswerWords
+pub mod Lengths
+pub mod SessionWords
+pub mod SizeWords
+pub mod Statement

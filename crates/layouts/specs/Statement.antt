@@ -1,0 +1,134 @@
+-- What is claimed of the layouts: where each word stands, that reading words undoes writing them, and that writing undoes reading. Each
+-- statement is proved in proofs/, under the same name in lower case.
+--   Offsets                 the offsets and the lengths of the C header as numbers, and what stands there:
+--     refusal, sizes, session, answer    of any refusal, and of sizes, sessions and answers with maxInputs word lengths and values
+--   RefusalPlaces, SizesPlaces, SessionPlaces, AnswerPlaces
+--                           what stands there, field by field: `count` is the number of words, the others are named as what stands there
+--   WordsOfMarksAndKinds    the words of the marks and of the kinds as numbers
+--   SizesAsWords
+--     restored    words that are sizes come back as they were
+--     fits        the words of sizes that the struct can hold are sizes
+--     decoded     and give these sizes
+--   SessionsAsWords
+--     restored, fits, decoded   the same of sessions with such sizes, at any position and under any mark
+--     given       a session that words give has such sizes
+--     opened      and so has the session of every opening, accepted or refused
+--     continued   and the session that every continue call of such a session hands back
+--   AnswersAsWords
+--     restored    words that are an answer come back as they were
+--     fits        the words of an answer whose vector has maxInputs entries are an answer
+--     decoded     and give this answer
+--     continued   the answer of every continue call has such a vector
+use mathlib.Core.Bool.{true}
+use mathlib.Core.List.{List}
+use mathlib.Core.Path.{_≡_}
+use Prim.Native.Nat.{ℕ}
+use lib.ListN.{length, take, drop}
+use Rattle.sessions.specs.Session.{opened, continued}
+use Rattle.sessions.specs.declared.Answer.{Answer}
+use Rattle.sessions.specs.declared.Kind.the-variants.{Refused, Spent, Equivalent, Differs}
+use Rattle.sessions.specs.declared.Mark.the-variants.{Open, Equal, Differ}
+use Rattle.sessions.specs.declared.Session.{Session}
+use Rattle.sizes.specs.Sizes.{maxInputs}
+use Rattle.sizes.specs.declared.Refusal.{Refusal}
+use Rattle.sizes.specs.declared.Sizes.{Sizes}
+use Rattle.layouts.specs.AnswerWords.{refusalWords, kindWord, answerWords, answerFits, answerFrom}
+use Rattle.layouts.specs.Lengths.{word, atM, atD, atWidths, sizesLength, atPosition, atMark, sessionLength}
+use Rattle.layouts.specs.Lengths.{atNumber, atFile, atStep, refusalLength, atKind, atRun, atVector, atOutput₁, atOutput₂, answerLength}
+use Rattle.layouts.specs.SessionWords.{markWord, sessionWords, sessionFits, sessionFrom}
+use Rattle.layouts.specs.SizeWords.{sizeWords, sizesFit, sizesFrom, ByteSizes}
+
+pub record SizesAsWords : Type 0 where
+  pub restored : (w : List ℕ) → sizesFit w ≡ true → sizeWords (sizesFrom w) ≡ w
+  pub fits : (z : Sizes) → ByteSizes z → sizesFit (sizeWords z) ≡ true
+  pub decoded : (z : Sizes) → ByteSizes z → sizesFrom (sizeWords z) ≡ z
+
+-- the session has sizes that the struct can hold
+abbrev pub Held : Session → Type 0
+Held z = ByteSizes (z .sizes)
+
+pub record SessionsAsWords : Type 0 where
+  pub restored : (w : List ℕ) → sessionFits w ≡ true → sessionWords (sessionFrom w) ≡ w
+  pub fits : (z : Session) → Held z → sessionFits (sessionWords z) ≡ true
+  pub decoded : (z : Session) → Held z → sessionFrom (sessionWords z) ≡ z
+  pub given : (w : List ℕ) → sessionFits w ≡ true → Held (sessionFrom w)
+  pub opened : (f₁ f₂ : List ℕ) → Held (opened f₁ f₂ .session)
+  pub continued :
+      (f₁ f₂ : List ℕ) (z : Session) (B len : ℕ) → Held z → Held (continued f₁ f₂ z B len .session)
+
+-- the answer's vector has an entry for each input that a file may have
+abbrev pub WholeVector : Answer → Type 0
+WholeVector a = length (a .vector) ≡ maxInputs
+
+pub record AnswersAsWords : Type 0 where
+  pub restored : (w : List ℕ) → answerFits w ≡ true → answerWords (answerFrom w) ≡ w
+  pub fits : (a : Answer) → WholeVector a → answerFits (answerWords a) ≡ true
+  pub decoded : (a : Answer) → WholeVector a → answerFrom (answerWords a) ≡ a
+  pub continued : (f₁ f₂ : List ℕ) (z : Session) (B len : ℕ) → WholeVector (continued f₁ f₂ z B len .answer)
+
+pub record RefusalPlaces (r : Refusal) : Type 0 where
+  pub count : length (refusalWords r) ≡ 3
+  pub number : word (refusalWords r) 0 ≡ r .number
+  pub file : word (refusalWords r) 1 ≡ r .file
+  pub step : word (refusalWords r) 2 ≡ r .step
+
+-- the sizes have a word length for each input that a file may have
+abbrev pub WholeWidths : Sizes → Type 0
+WholeWidths z = length (z .widths) ≡ maxInputs
+
+pub record SizesPlaces (z : Sizes) : Type 0 where
+  pub count : length (sizeWords z) ≡ 10
+  pub m : word (sizeWords z) 0 ≡ z .m
+  pub d : word (sizeWords z) 1 ≡ z .d
+  pub widths : take 8 (drop 2 (sizeWords z)) ≡ z .widths
+
+pub record SessionPlaces (z : Session) : Type 0 where
+  pub count : length (sessionWords z) ≡ 12
+  pub m : word (sessionWords z) 0 ≡ z .sizes .m
+  pub d : word (sessionWords z) 1 ≡ z .sizes .d
+  pub widths : take 8 (drop 2 (sessionWords z)) ≡ z .sizes .widths
+  pub position : word (sessionWords z) 10 ≡ z .position
+  pub mark : word (sessionWords z) 11 ≡ markWord (z .mark)
+
+pub record AnswerPlaces (a : Answer) : Type 0 where
+  pub count : length (answerWords a) ≡ 15
+  pub number : word (answerWords a) 0 ≡ a .refusal .number
+  pub file : word (answerWords a) 1 ≡ a .refusal .file
+  pub step : word (answerWords a) 2 ≡ a .refusal .step
+  pub kind : word (answerWords a) 3 ≡ kindWord (a .kind)
+  pub run : word (answerWords a) 4 ≡ a .run
+  pub vector : take 8 (drop 5 (answerWords a)) ≡ a .vector
+  pub output₁ : word (answerWords a) 13 ≡ a .output1
+  pub output₂ : word (answerWords a) 14 ≡ a .output2
+
+pub record Offsets : Type 0 where
+  pub m : atM ≡ 0
+  pub d : atD ≡ 1
+  pub widths : atWidths ≡ 2
+  pub sizesCount : sizesLength ≡ 10
+  pub position : atPosition ≡ 10
+  pub mark : atMark ≡ 11
+  pub sessionCount : sessionLength ≡ 12
+  pub number : atNumber ≡ 0
+  pub file : atFile ≡ 1
+  pub step : atStep ≡ 2
+  pub refusalCount : refusalLength ≡ 3
+  pub kind : atKind ≡ 3
+  pub run : atRun ≡ 4
+  pub vector : atVector ≡ 5
+  pub output₁ : atOutput₁ ≡ 13
+  pub output₂ : atOutput₂ ≡ 14
+  pub answerCount : answerLength ≡ 15
+  pub refusal : (r : Refusal) → RefusalPlaces r
+  pub sizes : (z : Sizes) → WholeWidths z → SizesPlaces z
+  pub session : (z : Session) → WholeWidths (z .sizes) → SessionPlaces z
+  pub answer : (a : Answer) → WholeVector a → AnswerPlaces a
+
+pub record WordsOfMarksAndKinds : Type 0 where
+  pub unsettled : markWord Open ≡ 0
+  pub equal : markWord Equal ≡ 1
+  pub differ : markWord Differ ≡ 2
+  pub refused : kindWord Refused ≡ 0
+  pub spent : kindWord Spent ≡ 1
+  pub equivalent : kindWord Equivalent ≡ 2
+  pub differs : kindWord Differs ≡ 3

@@ -1,8 +1,11 @@
-//! The lines of the comparing program.
+//! The lines of the comparing program, and the text of an answer of continue.
 
 use crate::file::read;
 use crate::grid::{axes, size};
-use crate::sessions::{ANSWER, DIFFERS, KIND, REFUSED, RUN, SPENT, continued, opened};
+use crate::sessions::{ANSWER, DIFFERS, EQUIVALENT, KIND, REFUSED, RUN, SPENT, continued, opened};
+
+/// The least length of a text slice.
+pub const ROOM: usize = 512;
 
 /// The budget of each continue call.
 pub const BUDGET: u64 = 1_000_000;
@@ -18,8 +21,6 @@ pub fn report(files: [&[u8]; 2]) -> String {
     if opening.answer[0] != 0 {
         return format!("refused {}\n", joined(&opening.answer));
     }
-    let sizes = read(files[0], 1).expect("opened").sizes;
-    let axes = axes(&sizes);
     let scratch = vec![0; files[0].len().max(files[1].len()) / 9];
     let mut session = opening.session;
     let mut run = 0;
@@ -33,7 +34,22 @@ pub fn report(files: [&[u8]; 2]) -> String {
             _ => break call.answer,
         }
     };
-    let verdict = match answer[KIND] {
+    text(files, &answer, run)
+}
+
+/// The text of an answer of continue on two files, after `run` vectors over all calls; the answer's
+/// words may be anything.
+pub fn text(files: [&[u8]; 2], answer: &[u64; ANSWER], run: u64) -> String {
+    let kind = answer[KIND];
+    if kind == REFUSED {
+        return format!("refused {}\n", joined(&answer[..KIND]));
+    }
+    if ![EQUIVALENT, DIFFERS].contains(&kind) || opened(files).answer[0] != 0 {
+        return String::new();
+    }
+    let sizes = read(files[0], 1).expect("opened").sizes;
+    let axes = axes(&sizes);
+    let verdict = match kind {
         DIFFERS => {
             let vector = joined(&answer[RUN + 1..][..sizes.d()]);
             format!("differ {vector} : {}", joined(&answer[ANSWER - 2..]))
@@ -54,6 +70,17 @@ mod tests {
         let lines = "grid 2 4 = 8\ndiffer 1 1 : 1 0\nrun 6\n";
         assert_eq!(report([&SAMPLE_A, &SAMPLE_B]), lines);
         assert_eq!(report([&SAMPLE_A, &[]]), "refused 1 2 0\n");
+        let made_up = [7, 8, 9, REFUSED, 6, 5, 4, 3, 2, 1, 0, 1, 2, 3, 4];
+        let files: [&[u8]; 2] = [&SAMPLE_A, &SAMPLE_B];
+        assert_eq!(text(files, &made_up, 11), "refused 7 8 9\n");
+        for (kind, line) in [(EQUIVALENT, "equivalent"), (DIFFERS, "differ 5 4 : 3 4")] {
+            let answer = std::array::from_fn(|at| if at == KIND { kind } else { made_up[at] });
+            let lines = format!("grid 2 4 = 8\n{line}\nrun 11\n");
+            assert_eq!(text(files, &answer, 11), lines);
+            assert_eq!(text([&SAMPLE_A, &[]], &answer, 11), "");
+        }
+        assert_eq!(text(files, &[SPENT; ANSWER], 11), "");
+        assert_eq!(text(files, &[4; ANSWER], 11), "");
         let first = &pairs()[0].files;
         let lines = "grid 10 = 10\nequivalent\nrun 10\n";
         assert_eq!(report([&first[0], &first[1]]), lines);

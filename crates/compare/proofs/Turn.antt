@@ -8,20 +8,19 @@ use mathlib.Core.List.{List}
 use Prim.Native.Nat.{ℕ, _+_, _<_, _≤_}
 use native.Mathlib.Decide.{decLt}
 use native.Mathlib.Omega.{arith}
-use borrow.Author.Tests.{eq-eqb}
 use Rattle.engine.specs.Engine.{largerCount}
 use Rattle.file.specs.File.{sizesOf}
 use Rattle.grid.specs.Grid.{gridSize}
 use Rattle.search.proofs.Search.{true-or-false}
-use Rattle.sessions.specs.Calls.{Call, answerTo, acceptedBudget}
+use Rattle.sessions.specs.Calls.{Call, answerTo, IsVerdict, acceptedBudget}
 use Rattle.sessions.specs.Demand3.{OwnFiles, firstPlace, stop, start}
 use Rattle.sessions.specs.Session.{pairRefusal, isRefusal, opened, continued}
 use Rattle.sessions.specs.declared.Continued.{Continued}
 use Rattle.sessions.specs.declared.Mark.the-variants.{Open}
 use Rattle.sessions.specs.declared.Session.{Session}
-use Rattle.sessions.proofs.Step.{mark-open, mark-differ, mark-equal, At, Stepped, stop-range, own-refused, call-step}
-use Rattle.sessions.proofs.Verdict.{grid-least, given, settled}
-use Rattle.compare.specs.Comparison.{Concluded}
+use Rattle.sessions.proofs.Pair.{pair-accepted}
+use Rattle.sessions.proofs.Step.{mark-open, mark-differ, mark-equal, At, Stepped, own-refused, call-step}
+use Rattle.sessions.proofs.Verdict.{stopped, given}
 
 -- S vectors have led to the session z, and the stop is not reached
 pub record Under (f₁ f₂ : List ℕ) (S : ℕ) (z : Session) : Type 0 where
@@ -32,18 +31,17 @@ pub record Under (f₁ f₂ : List ℕ) (S : ℕ) (z : Session) : Type 0 where
 pub record Turned (f₁ f₂ : List ℕ) (S : ℕ) (r : Continued) : Type 0 where
   pub counted : S + r .answer .run ≡ r .session .position
   pub onward : r .session .mark ≡ Open → Under f₁ f₂ (S + r .answer .run) (r .session) × (0 < r .answer .run)
-  pub finished : ¬ (r .session .mark ≡ Open) → Concluded f₁ f₂ (r .answer) (S + r .answer .run)
+  pub finished : ¬ (r .session .mark ≡ Open) → IsVerdict (r .answer)
 
 module _ (f₁ f₂ : List ℕ) (accepted : opened f₁ f₂ .refusal .number ≡ 0) where
   abbrev D : ℕ
   D = stop f₁ f₂
 
-  pub pair : isRefusal (pairRefusal f₁ f₂) ≡ false
-  unfolding opened
-  pair = rw (eq-eqb (pairRefusal f₁ f₂ .number) 0 accepted)
+  pair : isRefusal (pairRefusal f₁ f₂) ≡ false
+  pair = pair-accepted f₁ f₂ accepted
 
   stop-above : 0 < D
-  stop-above = stop-range f₁ f₂ .1 (grid-least f₁ f₂ pair)
+  stop-above = stopped f₁ f₂ pair .low
 
   pub under-start : Under f₁ f₂ 0 (start f₁ f₂)
   unfolding opened
@@ -111,6 +109,5 @@ module _ (f₁ f₂ : List ℕ) (accepted : opened f₁ f₂ .refusal .number �
               (record { at = rw n (stepped .next); below = omega arith }, omega arith);
           finished = λ e.
               let h = closed-above e in
-              let v = stepped .verdict l h in
-              record { verdict = given f₁ f₂ _ v; settled = settled f₁ f₂ pair _ v; run = omega (arith, stepped .run) };
+              given f₁ f₂ _ (stepped .verdict l h);
         }

@@ -1,16 +1,36 @@
--- What the comparing program prints a comparison from (document 01, 'Sessions').
---   Concluded f₁ f₂ a n   a session on the files was continued to its verdict, which is the answer a, and all calls together ran n vectors
---     verdict   the answer is a verdict
---     settled   it is equivalent exactly where the outputs are equal at every full-width vector, and otherwise shows the first difference
---     run       n is demand 3's stop
+-- What the comparing program does with two files (document 01, 'Sessions' and 'Pairs').
+--   callBudget              the budget of each continue call
+--   ownCall f₁ f₂           a continue call with these files, that budget and a scratch slice of maxSteps entries
+--   Concluded f₁ f₂ a n     the session that opening gave was continued by such calls alone, to the verdict a, and all calls together ran n vectors
+--   PrintedOfStarts         of a file that is longer than any that is accepted, its first bytes print what the whole file does. Proved in
+--                           proofs/Long
 use mathlib.Core.Path.{_≡_}
-use mathlib.Core.List.{List}
-use Prim.Native.Nat.{ℕ}
-use Rattle.sessions.specs.Calls.{IsVerdict}
-use Rattle.sessions.specs.Demand3.{stop, Settled}
+use mathlib.Core.List.{List, [], _∷_, _++_}
+use Prim.Native.Nat.{ℕ, _<_}
+use lib.ListN.{take, replicate}
+use Rattle.file.specs.Check.{maxSteps}
+use Rattle.file.specs.Long.{longestFile}
+use Rattle.report.specs.Report.{printed}
+use Rattle.sessions.specs.Calls.{Call, answerTo, sessionAfter, answers, IsVerdict, vectorsRun}
+use Rattle.sessions.specs.Demand3.{start}
 use Rattle.sessions.specs.declared.Answer.{Answer}
 
+abbrev pub callBudget : ℕ
+callBudget = 1000000
+
+abbrev pub ownCall : List ℕ → List ℕ → Call
+ownCall f₁ f₂ = record { file₁ = f₁; file₂ = f₂; budget = callBudget; scratch = maxSteps }
+
 pub record Concluded (f₁ f₂ : List ℕ) (a : Answer) (n : ℕ) : Type 0 where
+  -- so many calls came before the one that gave the verdict
+  pub before : ℕ
+  pub answer : a ≡ answerTo (sessionAfter (start f₁ f₂) (replicate before (ownCall f₁ f₂))) (ownCall f₁ f₂) .answer
   pub verdict : IsVerdict a
-  pub settled : Settled f₁ f₂ a
-  pub run : n ≡ stop f₁ f₂
+  pub run : n ≡ vectorsRun (answers (start f₁ f₂) (replicate before (ownCall f₁ f₂) ++ ownCall f₁ f₂ ∷ []))
+
+abbrev pub PrintedOfStarts : Type 0
+PrintedOfStarts =
+    (f₁ f₂ : List ℕ) (k₁ k₂ : ℕ) →
+    longestFile < k₁ →
+    longestFile < k₂ →
+    printed (take k₁ f₁) (take k₂ f₂) ≡ printed f₁ f₂

@@ -1,55 +1,131 @@
-// Reading a file whole. One that cannot be read is empty.
-ghost use Rattle.io.specs.Counts.{Counts};
+// Reading the two files. No contract can say what a read brings: these say what becomes of what it answers.
+use libc::STDERR_FILENO;
+ghost use mathlib.Core.Bool.{true};
+ghost use mathlib.Core.Path.{_≡_};
+ghost use Prim.Native.Nat.{_<_};
+ghost use lib.ListN.{length};
+ghost use Rattle.file.specs.Long.{longestFile};
+ghost use Rattle.compare.specs.Input.{noneOrTwo, failedRead, noBytes, ReadWhole};
 
-// Reads to the end of the file, or until `buf` is full, and answers how many bytes came: none where a read fails.
-fn read_to_end(fd: i32, buf: &mut [u8]) -> usize
-    ensures { λ r. ⌜ Counts r (now (buf .exit)) ⌝ }
+// How reading a file ended: a read failed, a read brought nothing, at the end of the file, or the buffer is full.
+pub enum ReadEnd {
+    Failed,
+    AtEnd,
+    Full,
+}
+
+// What reading a file came to: how many bytes it gave, at the start of the buffer, and how it ended.
+pub struct Reading {
+    pub count: usize,
+    pub end: ReadEnd,
+}
+
+// Whether a read that answered `got` failed: it is below 0.
+fn failed(got: isize) -> bool
+    ensures { λ r. ⌜ r ≡ failedRead got ⌝ }
+{
+    got < 0
+}
+
+// A file that can't be read gives no bytes.
+fn unread() -> Reading
+    ensures { λ r. ⌜ r ≡ noBytes ⌝ }
+{
+    Reading {
+        count: 0,
+        end: ReadEnd::Failed,
+    }
+}
+
+// Reads until a read brings nothing, at the end of the file, or the buffer is full. A file of which a read fails gives no bytes, whatever came before.
+fn read_to_end(fd: i32, buf: &mut [u8]) -> Reading
+    requires { ⌜ longestFile < length (now buf) ⌝ }
+    ensures { λ r. ⌜ ReadWhole (now (buf .exit)) (r .count) (r .end) ⌝ }
 {
     let mut done = 0;
     while done < buf.len() {
         let rest = &mut buf[done..];
         let got = libc::read(fd, rest);
-        if got < 0 {
-            return 0;
+        if failed(got) {
+            return Reading {
+                count: 0,
+                end: ReadEnd::Failed,
+            };
         }
         let more = io::count(got, rest);
         if more == 0 {
-            return done;
+            return Reading {
+                count: done,
+                end: ReadEnd::AtEnd,
+            };
         }
         done += more;
     }
-    done
+    Reading {
+        count: done,
+        end: ReadEnd::Full,
+    }
 }
 
-// Reads the file of that name into `buf`, as far as it goes, and answers how many bytes came.
-fn read_file(path: &[u8], buf: &mut [u8]) -> usize
-    ensures { λ r. ⌜ Counts r (now (buf .exit)) ⌝ }
+// Reads the file of that name. One that can't be read, where opening it or some read fails, gives no bytes, and is named on standard error. Of a file that
+// is longer than any that is accepted, at least one byte more than that is read.
+fn read_file(path: &[u8], buf: &mut [u8]) -> Reading
+    requires { ⌜ longestFile < length (now buf) ⌝ }
+    ensures { λ r. ⌜ ReadWhole (now (buf .exit)) (r .count) (r .end) ⌝ }
 {
     let fd = os::open_read(path);
     if fd < 0 {
-        return 0;
+        os::fail(path);
+        return unread();
     }
-    let n = read_to_end(fd, buf);
+    let reading = read_to_end(fd, buf);
+    let end = reading.end;
+    if let ReadEnd::Failed = end {
+        os::fail(path);
+    }
     libc::close(fd);
-    n
+    reading
 }
 
-// Reads the file that argument i names. An argument that is longer than any path is taken as an empty one, which names no file.
-fn read_argument(i: usize, buf: &mut [u8]) -> usize
-    ensures { λ r. ⌜ Counts r (now (buf .exit)) ⌝ }
+// Reads the file that argument i names. A name that is longer than any path names no file.
+fn read_argument(i: usize, buf: &mut [u8]) -> Reading
+    requires { ⌜ longestFile < length (now buf) ⌝ }
+    ensures { λ r. ⌜ ReadWhole (now (buf .exit)) (r .count) (r .end) ⌝ }
 {
     let mut path = io::buffer();
     let n = os::arg(i, &mut path);
+    if n == 0 {
+        os::fail(b"file name");
+        return unread();
+    }
     read_file(&path[..n], buf)
 }
 
-// Reads the file that argument i names, or where the files are not named the one called `name`.
-pub fn read_input(is_named: bool, i: usize, name: &[u8], buf: &mut [u8]) -> usize
-    ensures { λ r. ⌜ Counts r (now (buf .exit)) ⌝ }
+// Whether a program that was started with `count` words, its own name among them, was given no file names or two.
+pub fn none_or_two(count: usize) -> bool
+    ensures { λ r. ⌜ r ≡ noneOrTwo count ⌝ }
 {
-    if is_named {
+    if count == 1 {
+        return true;
+    }
+    count == 3
+}
+
+// Reads the file that argument i names where there are two, or where there is none the one called `name`. With another count of arguments nothing
+// is read.
+pub fn read_input(count: usize, i: usize, name: &[u8], buf: &mut [u8]) -> Reading
+    requires { ⌜ noneOrTwo count ≡ true ⌝ }
+    requires { ⌜ longestFile < length (now buf) ⌝ }
+    ensures { λ r. ⌜ ReadWhole (now (buf .exit)) (r .count) (r .end) ⌝ }
+{
+    if count == 3 {
         read_argument(i, buf)
     } else {
         read_file(name, buf)
     }
+}
+
+// Says on standard error how the program is called.
+pub fn say_usage() {
+    io::write_all(STDERR_FILENO, b"usage: compare [FILE1 FILE2]\n");
 }

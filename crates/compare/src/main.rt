@@ -1,8 +1,12 @@
-// The comparing program: compares two datapath files to a verdict and prints it. The files are named by the two arguments; where there are
-// not two, they are a.dp and b.dp in the current folder.
+// The comparing program: compares two datapath files to a verdict and writes the report, in one piece. The files are named by two arguments;
+// where there are none, they are a.dp and b.dp in the current folder. With another count of arguments it says how it is called, and compares
+// nothing.
+use crate::input::none_or_two;
 use crate::input::read_input;
-use crate::output::print_comparison;
-use crate::output::print_refusal;
+use crate::input::say_usage;
+use libc::STDOUT_FILENO;
+use report::TEXT_ROOM;
+use report::report;
 use sessions::Answer;
 use sessions::Mark;
 use sessions::Session;
@@ -11,12 +15,13 @@ use sessions::open_session;
 ghost use mathlib.Core.Path.{_≡_};
 ghost use Prim.Native.Nat.{_≤_};
 ghost use lib.ListN.{length};
-ghost use Rattle.sessions.specs.Session.{opened};
 ghost use Rattle.file.specs.Check.{maxSteps};
+ghost use Rattle.report.specs.Report.{printed, textRoom};
+ghost use Rattle.report.specs.Writing.{TextWritten};
+ghost use Rattle.sessions.specs.Session.{opened};
 ghost use Rattle.compare.specs.Comparison.{Concluded};
 
 mod input;
-mod output;
 
 // The vectors that one continue call may run.
 const BUDGET: u64 = 1_000_000;
@@ -31,7 +36,7 @@ struct Comparison {
 fn conclude(file1: &[u8], file2: &[u8], session: Session, scratch: &mut [u64]) -> Comparison
     requires { ⌜ opened (now file1) (now file2) .refusal .number ≡ 0 ⌝ }
     requires { ⌜ session ≡ opened (now file1) (now file2) .session ⌝ }
-    requires { ⌜ maxSteps ≤ length (now scratch) ⌝ }
+    requires { ⌜ length (now scratch) ≡ maxSteps ⌝ }
     ensures { λ r. ⌜ Concluded (now (file1 .entry)) (now (file2 .entry)) (r .answer) (r .run) ⌝ }
 {
     let mut held = session;
@@ -49,30 +54,42 @@ fn conclude(file1: &[u8], file2: &[u8], session: Session, scratch: &mut [u64]) -
     }
 }
 
-// Compares two files and prints what comes of it.
-fn compare(file1: &[u8], file2: &[u8]) {
+// Compares two files, and writes what is to be printed of them at the front of the slice. Answers the count of bytes.
+fn compare(file1: &[u8], file2: &[u8], text: &mut [u8]) -> usize
+    requires { ⌜ textRoom ≤ length (now text) ⌝ }
+    ensures { λ r. ⌜
+        TextWritten (printed (now (file1 .entry)) (now (file2 .entry))) (now (text .entry)) (now (text .exit)) r
+        ⌝ }
+{
+    let mut scratch = [0u64; 1024];
     let opened = open_session(file1, file2);
     let refusal = opened.refusal;
     let number = refusal.number;
-    if number != 0 {
-        print_refusal(refusal);
-        return;
-    }
     let session = opened.session;
-    let mut scratch = [0u64; 1024];
+    if number != 0 {
+        let refused = continue_session(file1, file2, session, BUDGET, &mut scratch);
+        return report(file1, file2, refused.answer, 0, text);
+    }
     let comparison = conclude(file1, file2, session, &mut scratch);
-    let sizes = session.sizes;
-    print_comparison(sizes, comparison.answer, comparison.run);
+    report(file1, file2, comparison.answer, comparison.run, text)
 }
 
 // One byte more than the longest file that is accepted, 12 + 9 * 1,024 bytes: a longer file is seen to be longer, and is refused by its length.
 const ROOM: usize = 9229;
 
 fn main() {
+    let count = os::arg_count();
+    if !none_or_two(count) {
+        say_usage();
+        return;
+    }
     let mut buf1 = [0u8; ROOM];
     let mut buf2 = [0u8; ROOM];
-    let is_named = os::arg_count() == 3;
-    let n1 = read_input(is_named, 1, b"a.dp", &mut buf1);
-    let n2 = read_input(is_named, 2, b"b.dp", &mut buf2);
-    compare(&buf1[..n1], &buf2[..n2]);
+    let n1 = read_input(count, 1, b"a.dp", &mut buf1).count;
+    let n2 = read_input(count, 2, b"b.dp", &mut buf2).count;
+    let mut text = [0u8; TEXT_ROOM];
+    let n = compare(&buf1[..n1], &buf2[..n2], &mut text);
+    if !io::write_all(STDOUT_FILENO, &text[..n]) {
+        os::fail(b"standard output");
+    }
 }

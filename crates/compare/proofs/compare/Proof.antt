@@ -1,68 +1,95 @@
--- `compare::compare` meets its contract: past the test for a refusal the opening is accepted, so both files are, and the sizes of the session
--- are theirs.
--- Assumes nothing.
-use mathlib.Core.Path.{_≡_, sym, _∙_, ap}
-use native.Mathlib.Omega.{arith}
+-- `compare::compare` meets its contract: the text of the refusal, or of the verdict that the calls come to, is what is printed of the two files.
+use mathlib.Core.Path.{_≡_, refl, sym, _∙_, ap}
 use denote.Ref.{now}
-use Rattle.file.specs.File.{sizesOf}
-use Rattle.sessions.specs.Session.{opened}
+use lib.Dec.{lit<}
+use Rattle.file.specs.Check.{maxSteps}
+use Rattle.report.specs.Report.{reportOf}
+use Rattle.report.proofs.InFull.{refusedReported}
+use Rattle.report.proofs.Texts.{reported-whole}
+use Rattle.sessions.specs.Session.{opened, continued}
+use Rattle.sessions.specs.declared.Continued.{Continued}
 use Rattle.sessions.specs.declared.Opened.{Opened}
-use Rattle.sizes.specs.declared.Sizes.{Sizes}
-use Rattle.sessions.proofs.Pair.{comparable}
-use Rattle.compare.proofs.Turn.{pair, under-start}
+use Rattle.compare.specs.Comparison.{callBudget}
+use Rattle.compare.proofs.Texts.{written-as}
+use Rattle.compare.proofs.Trail.{concluded-text}
 use borrow.Author.Needs.{needs}
 use Rattle.compare.proofs.compare.Statement.{statement}
 use Rattle.compare.proofs.compare.Tie as tie
 
-accepted :
-    (c : tie.Else1) →
-    let a = c .before .before .before .before .before .args in
-    opened (now (a .file1)) (now (a .file2)) .refusal .number ≡ 0
-accepted c = sym (ap (λ (o : Opened). o .refusal .number) (c .before .before .open-session .ensures)) ∙ c .if1 .left
+-- the places: the entry, and past the opening
+abbrev entry : tie.After-open-session → tie.Start
+entry c = c .before .before .before .before
 
--- the sizes of the session are those of file 1
-sized :
-    (c : tie.Else1) →
-    let a = c .before .before .before .before .before .args in
-    c .before .before .open-session .result .session .sizes ≡ sizesOf (now (a .file1))
-sized c = ap (λ (o : Opened). o .session .sizes) (c .before .before .open-session .ensures) ∙ under-start _ _ (accepted c) .at .sizes
+opened-number : (c : tie.After-open-session) → let a = entry c .args in c .open-session .result .refusal .number ≡ opened (now (a .file1)) (now (a .file2)) .refusal .number
+opened-number c = ap (λ (o : Opened). o .refusal .number) (c .open-session .ensures)
+
+opened-session : (c : tie.After-open-session) → let a = entry c .args in c .open-session .result .session ≡ opened (now (a .file1)) (now (a .file2)) .session
+opened-session c = ap (λ (o : Opened). o .session) (c .open-session .ensures)
+
+accepted : (c : tie.Else1) → let a = entry (c .before .before .before) .args in opened (now (a .file1)) (now (a .file2)) .refusal .number ≡ 0
+accepted c = sym (opened-number (c .before .before .before)) ∙ c .if1 .left
 
 open-session-requires : tie.Need-open-session-requires
 open-session-requires c κs = search needs
 
-print-refusal-requires : tie.Need-print-refusal-requires
-print-refusal-requires c κs = search needs
+slice-aggregate-continue-session : tie.Need-slice-aggregate-continue-session
+slice-aggregate-continue-session c = search needs
+
+continue-session-requires : tie.Need-continue-session-requires
+continue-session-requires c κs = search needs
+
+report-requires : tie.Need-report-requires
+report-requires c κs = search needs
+
+same-length : tie.Need-same-length
+same-length c = search needs
 
 returns : tie.Need-returns
-returns c = search needs
+returns c =
+    let refused = c .before .before .before .before .before .before .before in
+    let o = refused .before .before .before in
+    let a = entry o .args in
+    let called = c .before .before .before .before .before .continue-session in
+    let e =
+    reported-whole (now (a .file1)) (now (a .file2)) _ _ _ (entry o .pre)
+    ∙ ap (λ (r : Continued). reportOf (now (a .file1)) (now (a .file2)) (r .answer) 0) (called .ensures .0)
+    ∙ ap (λ z. reportOf (now (a .file1)) (now (a .file2)) (continued (now (a .file1)) (now (a .file2)) z callBudget maxSteps .answer) 0) (opened-session o)
+    ∙ refusedReported _ _ (λ z. refused .if1 .taken (opened-number o ∙ z)) callBudget maxSteps 0 (lit< tt) in
+    written-as e (c .before .before .report .ensures)
 
 slice-aggregate-conclude : tie.Need-slice-aggregate-conclude
 slice-aggregate-conclude c = search needs
 
 conclude-requires : tie.Need-conclude-requires
-conclude-requires c κs =
-    let e = c .before .before in
-    (accepted e, (ap (λ (o : Opened). o .session) (e .before .before .open-session .ensures), search needs))
+conclude-requires c κs = (accepted (c .before), (opened-session (c .before .before .before .before), refl))
 
-print-comparison-requires : tie.Need-print-comparison-requires
-print-comparison-requires c κs =
-    let e = c .before .before .before .before .before in
-    let a = comparable _ _ (pair _ _ (accepted e)) .sound₁ in
-    let m = ap (λ (z : Sizes). z .m) (sized e) in
-    let d = ap (λ (z : Sizes). z .d) (sized e) in
-    ((omega (arith, a .outputLow, m), omega (arith, a .outputHigh, m)), omega (arith, a .inputsHigh, d))
+report-requires-2 : tie.Need-report-requires-2
+report-requires-2 c κs = search needs
+
+same-length-2 : tie.Need-same-length-2
+same-length-2 c = search needs
 
 returns-2 : tie.Need-returns-2
-returns-2 c = search needs
+returns-2 c =
+    let g = c .before .before .before .before .before .before .before in
+    let o = g .before .before .before in
+    let a = entry o .args in
+    let done = c .before .before .before .before .before .conclude in
+    let e = reported-whole (now (a .file1)) (now (a .file2)) _ _ _ (entry o .pre) ∙ concluded-text _ _ (accepted g) _ _ (done .ensures) in
+    written-as e (c .before .before .report2 .ensures)
 
 pub compare-spec : {M : Type 1} → statement M
 compare-spec =
     tie.close
     (tie.spec
     open-session-requires
-    print-refusal-requires
+    slice-aggregate-continue-session
+    continue-session-requires
+    report-requires
+    same-length
     returns
     slice-aggregate-conclude
     conclude-requires
-    print-comparison-requires
+    report-requires-2
+    same-length-2
     returns-2)

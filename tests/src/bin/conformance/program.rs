@@ -1,7 +1,8 @@
 //! The comparing program, run on files as its users run it.
 //!
-//! CORKBINGO_COMPARE names the program: `NAME FILE1 FILE2` compares two files. Without it these
-//! groups are left out. What is asked of each run is exactly what it prints.
+//! CORKBINGO_COMPARE names the command: `NAME FILE1 FILE2` compares two files. Without it these
+//! groups are left out. CORKBINGO_PROGRAM names the linked program behind it. What is asked of each
+//! run is exactly what it prints, of some also how it ends and what it says on standard error.
 
 use crate::Group;
 use crate::bench::{Bench, Outcome};
@@ -23,6 +24,7 @@ use std::thread;
 use std::time::{Duration, Instant};
 
 const NAME: &str = "CORKBINGO_COMPARE";
+const LINKED: &str = "CORKBINGO_PROGRAM";
 
 /// The longest time of a run.
 const LIMIT: Duration = Duration::from_secs(60);
@@ -39,6 +41,9 @@ pub fn groups() -> Vec<Group> {
         ("comparing program: refusals", None, refused),
         ("comparing program: unreadable files", None, unreadable),
         ("comparing program: several calls", None, several_calls),
+        ("comparing program: status", None, status),
+        ("comparing program: arguments", None, arguments),
+        ("comparing program: reads and writes", None, reads),
     ];
     let last = "comparing program: forbidden files";
     if forbids() {
@@ -49,10 +54,19 @@ pub fn groups() -> Vec<Group> {
     list
 }
 
-/// The program, by a path that holds in every folder.
+/// The command, by a path that holds in every folder.
 fn program() -> Outcome<PathBuf> {
-    let name = env::var_os(NAME).unwrap_or_default();
-    fs::canonicalize(&name).map_err(|error| format!("{NAME}, {name:?}: {error}"))
+    path_in(NAME)
+}
+
+/// The linked program.
+fn linked() -> Outcome<PathBuf> {
+    path_in(LINKED)
+}
+
+fn path_in(variable: &str) -> Outcome<PathBuf> {
+    let name = env::var_os(variable).unwrap_or_default();
+    fs::canonicalize(&name).map_err(|error| format!("{variable}, {name:?}: {error}"))
 }
 
 /// A new folder for files, removed at the end.
@@ -84,10 +98,17 @@ fn done<T>(result: std::io::Result<T>) -> Outcome<T> {
     result.map_err(|error| error.to_string())
 }
 
-/// What a run prints. A run that does not end in time is ended.
-fn printed(command: &mut Command) -> Outcome<String> {
-    let command = command.stdin(Stdio::null()).stderr(Stdio::null());
-    let mut child = done(command.stdout(Stdio::piped()).spawn())?;
+/// What a run prints, what it says on standard error, and its status.
+#[derive(Debug, PartialEq, Eq)]
+struct Run {
+    lines: String,
+    said: String,
+    status: i32,
+}
+
+/// A whole run. One that does not end in time is ended.
+fn whole(command: &mut Command) -> Outcome<Run> {
+    let mut child = done(command.stdin(Stdio::null()).spawn())?;
     let end = Instant::now() + LIMIT;
     while done(child.try_wait())?.is_none() {
         if Instant::now() > end {
@@ -98,10 +119,24 @@ fn printed(command: &mut Command) -> Outcome<String> {
         thread::sleep(Duration::from_millis(1));
     }
     let output = done(child.wait_with_output())?;
-    if output.status.code().is_none() {
-        return Err(format!("the program ended by {}", output.status));
-    }
-    String::from_utf8(output.stdout).map_err(|error| error.to_string())
+    let text = |bytes| String::from_utf8(bytes).map_err(|error| error.to_string());
+    Ok(Run {
+        lines: text(output.stdout)?,
+        said: text(output.stderr)?,
+        status: (output.status.code())
+            .ok_or_else(|| format!("the program ended by {}", output.status))?,
+    })
+}
+
+/// What a run prints.
+fn printed(command: &mut Command) -> Outcome<String> {
+    let command = command.stdout(Stdio::piped()).stderr(Stdio::null());
+    whole(command).map(|run| run.lines)
+}
+
+/// The same with standard error.
+fn told(command: &mut Command) -> Outcome<Run> {
+    whole(command.stdout(Stdio::piped()).stderr(Stdio::piped()))
 }
 
 /// Runs the program on two names.
@@ -296,4 +331,147 @@ fn several_calls(bench: &mut Bench) -> Outcome {
         pair(64, &widths, [product, 0.into()], &lines)?;
     }
     Ok(())
+}
+
+/// How the command ends: 0 for equivalent, 1 for differ, 2 for a refusal and where the answer can't
+/// be written.
+fn status(bench: &mut Bench) -> Outcome {
+    let folder = Folder::new("status")?;
+    let first = folder.write("a.dp", &SAMPLE_A)?;
+    let second = folder.write("b.dp", &SAMPLE_B)?;
+    let missing = folder.0.join("missing.dp");
+    for (names, lines, status) in [
+        ([&first, &first], "grid 2 4 = 8\nequivalent\nrun 8\n", 0),
+        ([&first, &second], SAMPLE_LINES, 1),
+        ([&first, &missing], "refused 1 2 0\n", 2),
+    ] {
+        let run = told(Command::new(program()?).args(names))?;
+        bench.same(&(run.lines.as_str(), run.status), &(lines, status), || {
+            format!("{names:?}")
+        })?;
+        let full = done(fs::File::create("/dev/full"))?;
+        let mut command = Command::new(program()?);
+        let run = whole(command.args(names).stdout(full).stderr(Stdio::null()))?;
+        bench.same(&run.status, &2, || format!("{names:?} to a full device"))?;
+    }
+    let run = told(Command::new(program()?).current_dir(&folder.0))?;
+    bench.same(
+        &(run.lines.as_str(), run.status),
+        &(SAMPLE_LINES, 1),
+        || String::from("no names"),
+    )?;
+    let run = told(Command::new(program()?).arg(&first).current_dir(&folder.0))?;
+    bench.same(&(run.lines.as_str(), run.status), &("", 2), || {
+        String::from("one name")
+    })?;
+    bench.same(&run.said.starts_with("usage: "), &true, || {
+        format!("one name: {:?}", run.said)
+    })
+}
+
+/// The linked program takes no names or two. With another count it compares nothing, though files of
+/// the fixed names are there.
+fn arguments(bench: &mut Bench) -> Outcome {
+    let folder = Folder::new("arguments")?;
+    folder.write("a.dp", &SAMPLE_A)?;
+    folder.write("b.dp", &SAMPLE_B)?;
+    let names = ["a.dp", "b.dp", "a.dp", "b.dp", "a.dp"];
+    for count in 0..=names.len() {
+        let mut command = Command::new(linked()?);
+        let run = told(command.args(&names[..count]).current_dir(&folder.0))?;
+        let expected = match count {
+            0 | 2 => (SAMPLE_LINES, ""),
+            _ => ("", "usage: compare [FILE1 FILE2]\n"),
+        };
+        bench.same(&(run.lines.as_str(), run.said.as_str()), &expected, || {
+            format!("{count} arguments")
+        })?;
+    }
+    let long = "x".repeat(5_000);
+    let mut command = Command::new(linked()?);
+    let run = told(command.args(["a.dp", long.as_str()]).current_dir(&folder.0))?;
+    bench.same(run.lines.as_str(), "refused 1 2 0\n", || {
+        String::from("a name of 5,000 bytes")
+    })?;
+    bench.same(&run.said.starts_with("file name: "), &true, || {
+        run.said.clone()
+    })
+}
+
+/// Reads that bring few bytes at a time, reads that fail midway, and writes: a file of which some
+/// read fails counts as empty and is named on standard error, and the report is one write.
+fn reads(bench: &mut Bench) -> Outcome {
+    let folder = Folder::new("reads")?;
+    let library = folder.0.join("reads.so");
+    let source = Path::new(env!("CARGO_MANIFEST_DIR")).join("c/reads.c");
+    let mut compiler = Command::new("gcc");
+    let compiled = compiler
+        .args(["-shared", "-fPIC", "-o"])
+        .args([&library, &source]);
+    bench.same(&done(compiled.status())?.success(), &true, || {
+        String::from("gcc compiles reads.c")
+    })?;
+    let largest = plain(8, &[8], STEPS);
+    let mut longer = largest.clone();
+    longer.push(0);
+    folder.write("first.dp", &SAMPLE_A)?;
+    folder.write("second.dp", &SAMPLE_B)?;
+    folder.write("largest.dp", &largest)?;
+    folder.write("longer.dp", &longer)?;
+    let command = |names: [&str; 2], variables: &[(&str, &str)]| {
+        let mut command = Command::new(linked()?);
+        command.args(names).current_dir(&folder.0);
+        command
+            .env("LD_PRELOAD", &library)
+            .envs(variables.iter().copied());
+        told(&mut command)
+    };
+    let samples = ["first.dp", "second.dp"];
+    let all = "grid 10 = 10\nequivalent\nrun 10\n";
+    for most in ["1", "7", "4096", "9228"] {
+        for (names, lines) in [
+            (samples, SAMPLE_LINES),
+            (["largest.dp", "largest.dp"], all),
+            (["longer.dp", "largest.dp"], "refused 6 1 0\n"),
+            (["largest.dp", "longer.dp"], "refused 6 2 0\n"),
+        ] {
+            let run = command(names, &[("READ_MOST", most)])?;
+            bench.same(
+                &(run.lines.as_str(), run.said.as_str()),
+                &(lines, ""),
+                || format!("{names:?}, {most} bytes a read"),
+            )?;
+        }
+    }
+    for fails in ["0", "1", "12", "20", "21", "38", "39"] {
+        for (index, name) in samples.iter().enumerate() {
+            if index == 1 && ["38", "39"].contains(&fails) {
+                continue; // the file has 21 bytes, and the read at its end is the last
+            }
+            let run = command(samples, &[("READ_NAME", name), ("READ_FAILS", fails)])?;
+            let expected = (
+                format!("refused 1 {} 0\n", index + 1),
+                format!("{name}: Input/output error\n"),
+            );
+            bench.same(&(run.lines, run.said), &expected, || {
+                format!("{name} fails after {fails} bytes")
+            })?;
+        }
+    }
+    for (names, lines) in [
+        (samples, SAMPLE_LINES),
+        (["largest.dp", "longer.dp"], "refused 6 2 0\n"),
+    ] {
+        let run = command(names, &[("WRITE_SHOWN", "1")])?;
+        bench.same(run.lines.as_str(), format!("[{lines}]").as_str(), || {
+            format!("writes of {names:?}")
+        })?;
+    }
+    let full = done(fs::File::create("/dev/full"))?;
+    let mut command = Command::new(linked()?);
+    command.args(samples).current_dir(&folder.0);
+    let run = whole(command.stdout(full).stderr(Stdio::piped()))?;
+    bench.same(&run.said.starts_with("standard output: "), &true, || {
+        run.said.clone()
+    })
 }

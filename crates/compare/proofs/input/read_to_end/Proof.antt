@@ -1,11 +1,12 @@
 -- `compare::input::read_to_end` meets its contract. The invariant: what came lies within the buffer, whose length stays. The measure is the room
 -- that is left, which falls since a read that brings nothing ends the loop.
--- Assumes nothing.
-use Rattle.io.proofs.Counting.{counts}
-use Prim.Native.Nat.{_-_, _≤_}
-use mathlib.Core.Path.{_≡_}
+use mathlib.Core.Path.{_≡_, refl}
+use Prim.Native.Nat.{ℕ, _-_, _≤_}
+use native.Mathlib.Omega.{arith}
 use lib.ListN.{length}
 use borrow.Author.Needs.{needs}
+use Rattle.io.proofs.Counting.{counts}
+use Rattle.compare.proofs.Unread.{none-read}
 use Rattle.compare.proofs.input.read_to_end.Statement.{statement}
 use Rattle.compare.proofs.input.read_to_end.Tie as tie
 
@@ -30,11 +31,14 @@ part-rest-end c = search needs
 read-requires : tie.Need-read-requires Inv-loop μ-loop
 read-requires c κs = search needs
 
+failed-requires : tie.Need-failed-requires Inv-loop μ-loop
+failed-requires c κs = search needs
+
 same-length : tie.Need-same-length Inv-loop μ-loop
 same-length c = search needs
 
 returns : tie.Need-returns Inv-loop μ-loop
-returns c = search needs
+returns c = none-read _ _ refl
 
 count-requires : tie.Need-count-requires Inv-loop μ-loop
 count-requires c κs = search needs
@@ -43,7 +47,7 @@ same-length-2 : tie.Need-same-length-2 Inv-loop μ-loop
 same-length-2 c = search needs
 
 returns-2 : tie.Need-returns-2 Inv-loop μ-loop
-returns-2 c = counts _ _ (search needs)
+returns-2 c = record { counted = counts _ _ (search needs); unreadable = λ e. absurd (let q : _≡_ {A = ℕ} 0 1 = cc in omega arith); full = λ e. absurd (let q : _≡_ {A = ℕ} 0 1 = cc in omega arith) }
 
 add-done : tie.Need-add-done Inv-loop μ-loop
 add-done c = search needs
@@ -58,7 +62,7 @@ same-length-3 : tie.Need-same-length-3 Inv-loop μ-loop
 same-length-3 c = search needs
 
 returns-3 : tie.Need-returns-3 Inv-loop μ-loop
-returns-3 c = counts _ _ (search needs)
+returns-3 c = record { counted = counts _ _ (search needs); unreadable = λ e. absurd (let q : _≡_ {A = ℕ} 0 1 = cc in omega arith); full = λ e. omega (arith, c .before .loop .inv .1, c .loop-test .left) }
 
 pub read-to-end-spec : {M : Type 1} → statement M
 read-to-end-spec =
@@ -71,6 +75,7 @@ read-to-end-spec =
     part-rest-start
     part-rest-end
     read-requires
+    failed-requires
     same-length
     returns
     count-requires

@@ -16,9 +16,9 @@ pub const COUNTS_SEED: u64 = 0xc0a7_75e5_eed0;
 pub const ROWS_SEED: u64 = 0xc0a7_75e5_eed1;
 pub const SCRATCH_SEED: u64 = 0xc0a7_75e5_eed2;
 
-/// Output word lengths, around that of a 32-bit product, and counts of steps, around 64 and 256.
+/// Output word lengths, around that of a 32-bit product, and counts of steps, around 64, 256 and 512.
 const WORDS: [u64; 9] = [1, 2, 8, 16, 31, 32, 33, 63, 64];
-const COUNTS: [usize; 10] = [1, 2, 63, 64, 65, 200, 256, 257, 1023, 1024];
+const COUNTS: [usize; 12] = [1, 2, 63, 64, 65, 200, 256, 257, 512, 513, 1023, 1024];
 
 /// Word lengths of the inputs; the grid depends on m too.
 const WIDTHS: [&[u64]; 9] = [

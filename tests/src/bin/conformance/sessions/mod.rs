@@ -14,6 +14,7 @@
 //! | `stretches` | equivalent pairs, by budgets around batches, rows and blocks of rows |
 //! | `differences` | pairs that differ at chosen places |
 //! | `counts` | pairs of chosen counts of steps; scratch slices |
+//! | `reports` | the text of an answer |
 
 mod bench;
 mod counts;
@@ -24,6 +25,7 @@ mod positions;
 mod product;
 mod refusals;
 mod replay;
+mod reports;
 mod runs;
 mod soak;
 mod stretches;
@@ -33,7 +35,7 @@ use crate::Group;
 /// Two files, in the order of the call.
 type Files<'a> = [&'a [u8]; 2];
 
-pub const GROUPS: [Group; 18] = [
+pub const GROUPS: [Group; 20] = [
     ("openings refused", None, refusals::opening),
     ("precedence in open and continue", None, refusals::subsets),
     ("sizes of the two files", None, refusals::sizes),
@@ -83,5 +85,15 @@ pub const GROUPS: [Group; 18] = [
         "longer scratch slices",
         Some(counts::SCRATCH_SEED),
         counts::scratches,
+    ),
+    (
+        "reports of verdicts and refusals",
+        Some(reports::VERDICTS_SEED),
+        reports::verdicts,
+    ),
+    (
+        "reports of any answer",
+        Some(reports::ANSWERS_SEED),
+        reports::answers,
     ),
 ];

@@ -31,7 +31,24 @@ unsafe extern "C" {
         answer: *mut u64,
         answer_len: usize,
     ) -> u32;
+
+    fn corkbingo_report(
+        file1: *const u8,
+        file1_len: usize,
+        file2: *const u8,
+        file2_len: usize,
+        answer: *const u64,
+        answer_len: usize,
+        run: u64,
+        text: *mut u8,
+        text_len: usize,
+        out: *mut u64,
+        out_len: usize,
+    ) -> u32;
 }
+
+/// Bytes on both sides of a lent text that nobody may change.
+const GUARD: [u8; 16] = *b"a guard of bytes";
 
 const WRONG_SESSIONS: [usize; 3] = [0, SESSION - 1, SESSION + 1];
 
@@ -118,6 +135,52 @@ impl Product {
             session: std::array::from_fn(|index| session.content()[index]),
             scratch: work.content().to_vec(),
         }))
+    }
+
+    /// The length of the text, and the text slice after the call; none where the call returns 0.
+    pub fn report(
+        &mut self,
+        files: Files,
+        answer: &[u64],
+        run: u64,
+        text: &[u8],
+    ) -> Outcome<Option<(u64, Vec<u8>)>> {
+        let name = "report";
+        let [first, second] = [self.file.place(files[0]), self.second.place(files[1])];
+        let words = self.vector.place_words(answer);
+        let mut bytes = [&GUARD, text, &GUARD].concat();
+        let at = bytes[GUARD.len()..].as_mut_ptr();
+        // SAFETY: each slice is lent as pointer and length, and no two of them overlap.
+        let mut call = |out, length| unsafe {
+            corkbingo_report(
+                first,
+                files[0].len(),
+                second,
+                files[1].len(),
+                words,
+                answer.len(),
+                run,
+                at,
+                text.len(),
+                out,
+                length,
+            )
+        };
+        wrong_lengths(name, 1, &mut call)?;
+        let length: Option<[u64; 1]> = perhaps(name, &mut call)?;
+        self.files_unchanged(name, files)?;
+        ask(self.vector.holds_words(answer), || {
+            format!("{name}: wrote to the answer")
+        })?;
+        ask(bytes.starts_with(&GUARD) && bytes.ends_with(&GUARD), || {
+            format!("{name}: wrote beside the text")
+        })?;
+        let after = bytes[GUARD.len()..][..text.len()].to_vec();
+        let Some([length]) = length else {
+            let what = || format!("{name}: returned 0, yet the text was touched");
+            return ask(after == text, what).map(|()| None);
+        };
+        Ok(Some((length, after)))
     }
 
     fn files_unchanged(&self, name: &str, files: Files) -> Outcome {

@@ -1,0 +1,16 @@
+-- `compare::input::none_or_two` meets its contract, by the tests.
+use borrow.Author.Tests.{eq-eqb, ne-eqb}
+use Rattle.compare.specs.Input.{noneOrTwo}
+use Rattle.compare.proofs.input.none_or_two.Statement.{statement}
+use Rattle.compare.proofs.input.none_or_two.Tie as tie
+
+returns : tie.Need-returns
+unfolding noneOrTwo
+returns c = rw (eq-eqb _ 1 (c .if1 .taken))
+
+returns-2 : tie.Need-returns-2
+unfolding noneOrTwo
+returns-2 c = rw (ne-eqb _ 1 (c .if1 .left))
+
+pub none-or-two-spec : {M : Type 1} → statement M
+none-or-two-spec = tie.close (tie.spec returns returns-2)

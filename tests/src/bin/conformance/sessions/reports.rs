@@ -1,0 +1,144 @@
+//! The text of an answer of continue, in a lent slice.
+
+use super::Files;
+use super::bench::scratch;
+use crate::bench::{Bench, Outcome};
+use crate::faults::{FILE_FAULTS, sound_file};
+use reference::examples;
+use reference::pairs::{self, SAMPLE_A, SAMPLE_B};
+use reference::random::Random;
+use reference::report::{ROOM, report, text};
+use reference::samples;
+use reference::sessions::{ANSWER, DIFFERS, EQUIVALENT, KIND, REFUSED, RUN, SPENT};
+use reference::twins::{self, KINDS, small_sizes, twin};
+use std::collections::BTreeMap;
+
+pub const VERDICTS_SEED: u64 = 0x5e55_10e5_7e47;
+pub const ANSWERS_SEED: u64 = 0x5e55_10e5_a115;
+
+const PAIRS: u64 = 3_000;
+const ANSWERS: u64 = 30_000;
+
+/// The most vectors of a grid.
+const VECTORS: u64 = 400;
+
+/// A text slice with no line feed in it.
+fn blank(length: usize) -> Vec<u8> {
+    (0..length).map(|index| b'A' + (index % 26) as u8).collect()
+}
+
+/// Asks that the call writes these lines at the start of a text slice and leaves the rest.
+fn writes(
+    bench: &mut Bench,
+    files: Files,
+    answer: &[u64; ANSWER],
+    run: u64,
+    lines: &str,
+) -> Outcome {
+    for room in [ROOM, ROOM + 1, ROOM + 300] {
+        let before = blank(room);
+        let mut expected = before.clone();
+        expected[..lines.len()].copy_from_slice(lines.as_bytes());
+        let found = bench.product.report(files, answer, run, &before)?;
+        bench.same(&found, &Some((lines.len() as u64, expected)), || {
+            format!("answer {answer:?} after {run} vectors, in {room} bytes")
+        })?;
+    }
+    Ok(())
+}
+
+/// Runs a pair by the product's calls, as the comparing program does but by another budget, and
+/// asks for the text of the last answer.
+fn finished(bench: &mut Bench, files: Files, budget: u64) -> Outcome<u64> {
+    let mut session = bench.open(files)?.session;
+    let mut run = 0;
+    let answer = loop {
+        let done = bench.answered(files, &session, budget, &scratch(1_024))?;
+        session = done.session;
+        run += done.answer[RUN];
+        if done.answer[KIND] != SPENT {
+            break done.answer;
+        }
+        writes(bench, files, &done.answer, run, "")?;
+    };
+    writes(bench, files, &answer, run, &report(files))?;
+    Ok(answer[KIND])
+}
+
+/// Verdicts and refusals, from the files to the text: the pairs of both documents, every refusal of
+/// a file, and random pairs.
+pub fn verdicts(bench: &mut Bench) -> Outcome {
+    for pair in pairs::pairs().iter().chain(&examples::pairs()) {
+        let files = pair.files.each_ref().map(Vec::as_slice);
+        finished(bench, files, 1_000_000)?;
+    }
+    let sound = sound_file();
+    for fault in &FILE_FAULTS {
+        let mut bad = sound.clone();
+        (fault.make)(&mut bad);
+        for files in [[&bad, &sound], [&sound, &bad]] {
+            let kind = finished(bench, files.map(Vec::as_slice), 1)?;
+            bench.same(&kind, &REFUSED, || String::from("a damaged file"))?;
+        }
+    }
+    finished(bench, [&sound, &SAMPLE_A], 1)?;
+    let mut random = Random::new(VERDICTS_SEED);
+    let mut seen = BTreeMap::new();
+    for index in 0..PAIRS {
+        let sizes = small_sizes(&mut random, 1 + index % 64, VECTORS);
+        let path = twins::path(&mut random, &sizes);
+        let kind = random.pick(&KINDS);
+        let other = twin(&mut random, &path, kind);
+        let files = [&path, &other].map(reference::file::write);
+        let budget = random.between(100, 2 * VECTORS);
+        let kind = finished(bench, files.each_ref().map(Vec::as_slice), budget)?;
+        *seen.entry(kind).or_insert(0) += 1;
+    }
+    for kind in [EQUIVALENT, DIFFERS] {
+        let often = seen.get(&kind).copied().unwrap_or(0) > PAIRS / 10;
+        bench.same(&often, &true, || format!("kind {kind} occurs: {seen:?}"))?;
+    }
+    Ok(())
+}
+
+/// Answers whose words are anything, on any files; answer and text slices of other lengths.
+pub fn answers(bench: &mut Bench) -> Outcome {
+    let mut random = Random::new(ANSWERS_SEED);
+    let files: Files = [&SAMPLE_A, &SAMPLE_B];
+    for index in 0..ANSWERS {
+        let m = 1 + index % 64;
+        let sizes = samples::sizes(&mut random, m);
+        let path = twins::path(&mut random, &sizes);
+        let mut made = [&path, &path].map(reference::file::write);
+        if random.chance(20) {
+            let which = random.index(2);
+            let at = random.index(made[which].len());
+            made[which][at] ^= 1 << random.below(8);
+        }
+        let mut answer = [0; ANSWER];
+        for word in &mut answer {
+            *word = random.edged_word();
+        }
+        if random.chance(90) {
+            answer[KIND] = random.below(5);
+        }
+        let run = random.edged_word();
+        let made = made.each_ref().map(Vec::as_slice);
+        writes(bench, made, &answer, run, &text(made, &answer, run))?;
+    }
+    let top = [u64::MAX; ANSWER];
+    let answer: [u64; ANSWER] =
+        std::array::from_fn(|at| if at == KIND { DIFFERS } else { top[at] });
+    for room in [0, 1, ROOM - 1] {
+        let found = bench.product.report(files, &answer, 1, &blank(room))?;
+        bench.same(&found, &None, || format!("a text of {room} bytes"))?;
+    }
+    let longer = [0; ANSWER + 1];
+    for wrong in [0, 3, ANSWER - 1, ANSWER + 1] {
+        let found = bench
+            .product
+            .report(files, &longer[..wrong], 1, &blank(ROOM))?;
+        bench.same(&found, &None, || format!("an answer of {wrong} words"))?;
+    }
+    Ok(())
+}

@@ -17,6 +17,7 @@ use Rattle.evaluate.specs.declared.Evaluated.{Evaluated as Answer}
 use Rattle.evaluate.proofs.Answers.{answer-accepted}
 use Rattle.exports.specs.FileCalls.{CheckCall, OperationsCall, BoundCall, GridCall, EvaluateCall}
 use Rattle.exports.specs.Layout.{has, returned, leaves}
+use Rattle.exports.specs.SessionCalls.{continueFits, continuing, ContinueCall}
 use Rattle.exports.specs.TableCalls.{cellsFit, TableCall, DifferenceCall, SumCall}
 use Rattle.exports.specs.Words.{operationWords, boundWords, gridWords, evaluateWords}
 use Rattle.exports.proofs.Answered.{grid-refused, grid-accepted, bound-refused, bound-accepted}
@@ -26,12 +27,17 @@ use Rattle.file.specs.File.{sizesOf, stepCount}
 use Rattle.file.proofs.Accepted.{accepted as file-accepted}
 use Rattle.file.proofs.Number.{refusal-number}
 use Rattle.grid.specs.Grid.{axesOf, gridSize, gridOf}
-use Rattle.layouts.specs.AnswerWords.{refusalWords}
+use Rattle.layouts.specs.AnswerWords.{refusalWords, answerWords}
 use Rattle.layouts.specs.Lengths.{word}
+use Rattle.layouts.specs.SessionWords.{sessionFrom}
 use Rattle.layouts.specs.SizeWords.{sizeWords, sizesFrom}
 use Rattle.layouts.proofs.Sessions.{file-widths, file-bytes}
 use Rattle.layouts.proofs.Sizes.{sizesAsWords}
 use Rattle.search.proofs.Search.{true-or-false}
+use Rattle.sessions.specs.Calls.{answerTo}
+use Rattle.sessions.specs.Session.{isRefusal, continueRefusal}
+use Rattle.sessions.proofs.Cases.{scratch-accepted as session-scratch}
+use Rattle.sessions.proofs.Step.{answer-refusal}
 use Rattle.sizes.specs.Sizes.{within, accepted}
 use Rattle.sizes.specs.declared.Refusal.{Refusal}
 use Rattle.sizes.specs.declared.Sizes.{Sizes}
@@ -41,12 +47,12 @@ use Rattle.tables.specs.Tables.{tableRefusal, cellsRefusal, madeTable, tableScr
 use Rattle.tables.proofs.Answers.{passed, at-0, fits, made, table-0, table-accepted, scratch-accepted}
 use Rattle.tables.proofs.Demand2.{sumOfMade, differenceOfSum, sumOfDifference}
 use Rattle.vectors.proofs.Held.{held-entry}
-use Rattle.callers.specs.AcceptedInC.{Checked, Stretched, From1To64, Bounded, Gridded, Evaluated, Tabled, Written, SumOfTableInC, DifferenceOfSumInC, SumOfDifferenceInC, AcceptedInC}
+use Rattle.callers.specs.AcceptedInC.{Checked, Stretched, From1To64, Bounded, Gridded, Evaluated, Tabled, Continued, Written, SumOfTableInC, DifferenceOfSumInC, SumOfDifferenceInC, AcceptedInC}
 use Rattle.callers.proofs.Refused.{right-told, right-left}
 use Rattle.callers.proofs.Sound.{number-0}
 
 -- what a call that returned 1 wrote
-wrote : (b : Bool) (after before slice : List ℕ) → 1 ≡ returned b → slice ≡ leaves b after before → slice ≡ after
+pub wrote : (b : Bool) (after before slice : List ℕ) → 1 ≡ returned b → slice ≡ leaves b after before → slice ≡ after
 wrote b after before slice r e = right-left b after before slice e (right-told 1 b r refl)
 
 -- the first word of a list, and the number of a refusal
@@ -227,6 +233,30 @@ module _ (f s t o s′ t′ o′ : List ℕ) (h : TableCall f s t o 1 s′ t′ 
             wrote (has 3 o) (tableScratch f s (length t)) s s′ (h .result) (h .scratch) ∙ scratch-accepted f s t table-number;
       }
 
+module _
+    (f₁ f₂ : List ℕ) (B : ℕ) (w s a w′ s′ a′ : List ℕ) (h : ContinueCall f₁ f₂ B w s a 1 w′ s′ a′) (zero : word a′ 0 ≡ 0)
+  where
+    abbrev R : Refusal
+    R = continueRefusal f₁ f₂ (sessionFrom w) B (length s)
+
+    continue-number : continuing f₁ f₂ w B s .answer .refusal .number ≡ 0
+    unfolding answerWords
+    continue-number = sym (first (wrote (continueFits w a) _ a a′ (h .result) (h .answer))) ∙ zero
+
+    continue-accepted : isRefusal R ≡ false
+    unfolding answerTo
+    continue-accepted =
+        sym (answer-refusal (sessionFrom w) (record { file₁ = f₁; file₂ = f₂; budget = B; scratch = length s }))
+        ∙ rw (eq-eqb _ 0 continue-number)
+
+    carried-on : Continued f₁ f₂ s s′
+    carried-on =
+        record {
+          scratch =
+              wrote (continueFits w a) _ s s′ (h .result) (h .scratch)
+              ∙ sym (session-scratch f₁ f₂ (sessionFrom w) B s continue-accepted);
+        }
+
 -- a second call, of the cells c that a first one wrote
 module _ (z x y q y′ q′ : List ℕ) (v : Sizes) (c w : List ℕ) (same : sizesFrom z ≡ v) (given : x ≡ c) where
   refusal-same : cellsRefusal (sizesFrom z) x (length y) ≡ cellsRefusal v c (length y)
@@ -299,6 +329,7 @@ acceptedInC =
       grid = gridded;
       evaluating = evaluated;
       making = tabled;
+      continuing = carried-on;
       sumOfTable = sum-of-table;
       differenceOfSum = difference-of-sum;
       sumOfDifference = sum-of-difference;

@@ -3,4 +3,6 @@ pub mod Demand3
 pub mod Mirror
 pub mod Refused
 pub mod Report
+pub mod Said
 pub mod Sound
+pub mod Taken

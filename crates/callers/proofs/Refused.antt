@@ -13,6 +13,7 @@ use borrow.Author.Tests.{ne-eqb}
 use Rattle.evaluate.specs.Evaluate.{refusalAt, accepts, evaluatedAt, scratchAfter}
 use Rattle.exports.specs.FileCalls.{EvaluateCall}
 use Rattle.exports.specs.Layout.{has, returned, leaves}
+use Rattle.exports.specs.ReportCalls.{reportFits}
 use Rattle.exports.specs.SessionCalls.{openFits, OpenCall, continueFits, continuing, ContinueCall}
 use Rattle.exports.specs.TableCalls.{cellsFit, TableCall, DifferenceCall, SumCall}
 use Rattle.exports.specs.Words.{operationsLength, operationWords, boundLength, boundWords, gridLength, gridWords, evaluateLength, evaluateWords}
@@ -267,4 +268,9 @@ refusedInC =
       operations = λ f o r o′ h. out-kept operationsLength o r o′ (operationWords f) (h .result) (h .out);
       bound = λ m o r o′ h. out-kept boundLength o r o′ (boundWords m) (h .result) (h .out);
       grid = λ f o r o′ h. out-kept gridLength o r o′ (gridWords f) (h .result) (h .out);
+      reporting = λ f₁ f₂ a n t o r t′ o′ h.
+          record {
+            wrong = λ e. wrong-left _ _ o o′ (h .out) (wrong-told r (reportFits a t o) (h .result) e);
+            text = λ e. wrong-left _ _ t t′ (h .text) (wrong-told r (reportFits a t o) (h .result) e);
+          };
     }

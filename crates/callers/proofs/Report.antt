@@ -1,35 +1,42 @@
 -- The printed text for a caller in C: the words of an answer give back the answer, whose text the library's claims tell. The layout of a report
 -- is opened once, and a kind word that is not 0, 2 or 3 is that of a spent budget, or of no kind. Assumes nothing.
 use mathlib.Core.Bool.{true, false}
-use mathlib.Core.Logic.{⊎-elim}
+use mathlib.Core.Logic.{_⊎_, inl, inr, ⊎-elim}
 use mathlib.Core.List.{List, [], _∷_, _++_}
-use mathlib.Core.Path.{_≡_, refl, _∙_, ap, subst}
+use mathlib.Core.Path.{_≡_, refl, sym, _∙_, ap, subst}
 use Prim.Native.Nat.{ℕ, _≤_}
 use native.Mathlib.Omega.{arith}
-use borrow.Author.Tests.{eq-eqb, le-leb}
-use lib.ListN.{length, drop}
+use lib.ListN.{length, take, drop, length-take, length-drop, take-append-drop}
+use lib.Seq.{take-append-le}
 use Rattle.exports.specs.ReportCalls.{reportFits, reportText, ReportCall}
 use Rattle.exports.specs.SessionCalls.{openFits, continueFits}
+use Rattle.file.specs.File.{sizesOf}
 use Rattle.layouts.specs.AnswerWords.{kindFrom, answerWords, answerFits, answerFrom}
 use Rattle.layouts.specs.Lengths.{word, atNumber}
 use Rattle.layouts.specs.SessionWords.{sessionFrom}
 use Rattle.layouts.proofs.Answers.{answersAsWords}
 use Rattle.layouts.proofs.Sessions.{sessionsAsWords}
+use Rattle.report.specs.Claims.{differWords}
 use Rattle.report.specs.Report.{reportOf, printed}
-use Rattle.layouts.proofs.Told.{answer-told}
+use Rattle.layouts.proofs.Told.{answer-told, answer-fits}
 use Rattle.report.proofs.Texts.{report-spent}
 use Rattle.report.proofs.InFull.{reportedInFull, refusedReported}
-use Rattle.sessions.specs.Calls.{answerTo, sessionAfter}
+use Rattle.report.proofs.Printed.{refusedText}
+use Rattle.report.proofs.Shown.{noText, shownAsIs}
+use Rattle.sessions.specs.Calls.{answerTo, sessionAfter, IsVerdict}
 use Rattle.sessions.specs.Demand3.{start}
 use Rattle.sessions.specs.Session.{opened, continued}
-use Rattle.sessions.specs.declared.Kind.the-variants.{Spent}
+use Rattle.sessions.specs.declared.Kind.{Kind}
+use Rattle.sessions.specs.declared.Kind.the-variants.{Refused, Spent, Equivalent, Differs}
 use Rattle.sessions.specs.declared.Session.{Session}
+use Rattle.sessions.proofs.Pair.{pair-accepted, comparable}
 use Rattle.search.proofs.Search.{true-or-false}
 use Rattle.callers.specs.Made.{Made, runs}
-use Rattle.callers.specs.ReportInC.{ShownInC, ReportInC, RefusedReportInC, ReportTaken, NoTextInC}
+use Rattle.callers.specs.ReportInC.{ShownInC, ReportInC, RefusedReportInC, NoText, Stands, RefusedTextInC, VerdictTextInC, NoTextInC}
 use Rattle.callers.proofs.Demand3.{number-0, start-words, verdict-told}
 use Rattle.callers.proofs.Mirror.{call, Mirror, mirrored, runs-told, allowed-told, passed}
 use Rattle.callers.proofs.Refused.{right-told, right-left}
+use Rattle.callers.proofs.Taken.{takenInC}
 
 -- the text of the words of a continue call's answer is the answer's
 said-text :
@@ -76,37 +83,106 @@ refusedReportInC f₁ f₂ w₀ o w o′ h x B s a w′ s′ a′ k b n t l t′
     (said-text f₁ f₂ f₁ f₂ (opened f₁ f₂ .session) B (length s) a′ n said
     ∙ refusedReported f₁ f₂ (λ e. x (number ∙ e)) B (length s) n b)
 
-report-laid : (a t l : List ℕ) → length a ≡ 15 → 512 ≤ length t → length l ≡ 1 → reportFits a t l ≡ true
-unfolding reportFits
-report-laid a t l e g k = rw (eq-eqb (length a) 15 e, le-leb 512 (length t) g, eq-eqb (length l) 1 k)
-
-pub reportTaken : ReportTaken
-reportTaken f₁ f₂ a n t l r t′ l′ h e g k = h .result ∙ rw (report-laid a t l e g k)
+-- the kind that a kind word gives
+kind-0 : kindFrom 0 ≡ Refused
+unfolding kindFrom
+kind-0 = refl
 
 kind-1 : kindFrom 1 ≡ Spent
 unfolding kindFrom
 kind-1 = refl
 
--- words of an answer whose kind word is 1 give a spent answer
-spent : (a : List ℕ) → word a 3 ≡ 1 → answerFrom a .kind ≡ Spent
-unfolding answerFrom
-spent a e = ap kindFrom e ∙ kind-1
+kind-2 : kindFrom 2 ≡ Equivalent
+unfolding kindFrom
+kind-2 = refl
 
-no-text :
-    (f₁ f₂ a : List ℕ) (n : ℕ) → ¬ (word a 3 ≡ 0) → ¬ (word a 3 ≡ 2) → ¬ (word a 3 ≡ 3) → reportText f₁ f₂ a n ≡ []
-unfolding reportText
-no-text f₁ f₂ a n x y z =
-    ⊎-elim
-    (λ (e : answerFits a ≡ true).
-    rw e (report-spent f₁ f₂ (answerFrom a) n (spent a (omega (arith, answer-told a e .kind, x, y, z)))))
-    (λ (e : answerFits a ≡ false). rw e)
-    (true-or-false (answerFits a))
+kind-3 : kindFrom 3 ≡ Differs
+unfolding kindFrom
+kind-3 = refl
+
+-- the answer that words give has it
+kind-given : (a : List ℕ) {n : ℕ} {k : Kind} → kindFrom n ≡ k → word a 3 ≡ n → answerFrom a .kind ≡ k
+unfolding answerFrom
+kind-given a q e = ap kindFrom e ∙ q
+
+-- a call that returned 1 writes the text of these words
+module _ (f₁ f₂ a : List ℕ) (n : ℕ) (t l t′ l′ : List ℕ) (r : ReportCall f₁ f₂ a n t l 1 t′ l′) where
+  laid : reportFits a t l ≡ true
+  laid = right-told 1 _ (r .result) refl
+
+  stands : {P : List ℕ → Type 0} → P (reportText f₁ f₂ a n) → Stands P t t′ l′
+  stands p =
+      record {
+        said = reportText f₁ f₂ a n;
+        told = p;
+        text = right-left _ _ t _ (r .text) laid;
+        count = right-left _ _ l _ (r .out) laid;
+      }
+
+  -- words of a kind are an answer
+  kind-fits : word a 3 ≤ 3 → answerFits a ≡ true
+  kind-fits h = answer-fits a (record { long = takenInC .reporting f₁ f₂ a n t l 1 t′ l′ r .taken .0 refl .answer; kind = h })
+
+  text-given : word a 3 ≤ 3 → reportText f₁ f₂ a n ≡ reportOf f₁ f₂ (answerFrom a) n
+  unfolding reportText
+  text-given h = rw (kind-fits h)
+
+  empty : reportText f₁ f₂ a n ≡ [] → NoText t t′ l′
+  empty e =
+      record {
+        text = right-left _ _ t _ (r .text) laid ∙ ap (λ u. u ++ drop (length u) t) e;
+        count = right-left _ _ l _ (r .out) laid ∙ ap (λ (u : List ℕ). length u ∷ []) e;
+      }
+
+  verdict-given : (word a 3 ≡ 2) ⊎ (word a 3 ≡ 3) → IsVerdict (answerFrom a)
+  verdict-given (inl e) = inl (kind-given a kind-2 e)
+  verdict-given (inr e) = inr (kind-given a kind-3 e)
+
+  verdict-low : (word a 3 ≡ 2) ⊎ (word a 3 ≡ 3) → word a 3 ≤ 3
+  verdict-low (inl e) = omega arith
+  verdict-low (inr e) = omega arith
+
+  no-kind : ¬ (word a 3 ≡ 0) → ¬ (word a 3 ≡ 2) → ¬ (word a 3 ≡ 3) → reportText f₁ f₂ a n ≡ []
+  unfolding reportText
+  no-kind x y z =
+      ⊎-elim
+      (λ (e : answerFits a ≡ true).
+      rw e (report-spent f₁ f₂ (answerFrom a) n (kind-given a kind-1 (omega (arith, answer-told a e .kind, x, y, z)))))
+      (λ (e : answerFits a ≡ false). rw e)
+      (true-or-false (answerFits a))
+
+pub refusedTextInC : RefusedTextInC
+unfolding answerFrom
+refusedTextInC f₁ f₂ a n t l t′ l′ r e =
+    stands f₁ f₂ a n t l t′ l′ r
+    (rw (text-given f₁ f₂ a n t l t′ l′ r (omega arith)) (refusedText f₁ f₂ (answerFrom a) n (kind-given a kind-0 e)))
+
+-- the start of a start
+front : (d n : ℕ) (l : List ℕ) → d ≤ length (take n l) → take d (take n l) ≡ take d l
+front d n l h = sym (take-append-le d (take n l) (drop n l) h) ∙ ap (take d) (take-append-drop n l)
+
+pub verdictTextInC : VerdictTextInC
+unfolding answerFrom
+verdictTextInC f₁ f₂ a n t l t′ l′ r o v =
+    let s = shownAsIs f₁ f₂ o (answerFrom a) n (verdict-given f₁ f₂ a n t l t′ l′ r v) in
+    let long : length a ≡ 15 = takenInC .reporting f₁ f₂ a n t l 1 t′ l′ r .taken .0 refl .answer in
+    stands f₁ f₂ a n t l t′ l′ r
+    (rw (text-given f₁ f₂ a n t l t′ l′ r (verdict-low f₁ f₂ a n t l t′ l′ r v))
+    (record {
+      verdict = s .verdict;
+      lines = s .lines;
+      equivalent = λ e. s .equivalent (kind-given a kind-2 e);
+      differs = λ e.
+          s .differs (kind-given a kind-3 e)
+          ∙ ap (λ x. differWords x (word a 13) (word a 14)) (front (sizesOf f₁ .d) 8 (drop 5 a) (rw (length-take, length-drop) (omega (arith, long, comparable f₁ f₂ (pair-accepted f₁ f₂ o) .sound₁ .inputsHigh))));
+    }))
 
 pub noTextInC : NoTextInC
-noTextInC f₁ f₂ a n t l t′ l′ r x y z =
-    let laid : reportFits a t l ≡ true = right-told 1 _ (r .result) refl in
-    let e = no-text f₁ f₂ a n x y z in
+noTextInC =
     record {
-      text = right-left _ _ t _ (r .text) laid ∙ ap (λ u. u ++ drop (length u) t) e;
-      count = right-left _ _ l _ (r .out) laid ∙ ap (λ (u : List ℕ). length u ∷ []) e;
+      kinds = λ f₁ f₂ a n t l t′ l′ r x y z. empty f₁ f₂ a n t l t′ l′ r (no-kind f₁ f₂ a n t l t′ l′ r x y z);
+      unopened = λ f₁ f₂ a n t l t′ l′ r o v.
+          empty f₁ f₂ a n t l t′ l′ r
+          (text-given f₁ f₂ a n t l t′ l′ r (verdict-low f₁ f₂ a n t l t′ l′ r v)
+          ∙ noText .unopened f₁ f₂ o (answerFrom a) n (verdict-given f₁ f₂ a n t l t′ l′ r v));
     }

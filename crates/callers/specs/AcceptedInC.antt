@@ -1,6 +1,7 @@
 -- What a call that returned 1 answers, for a caller in C, of any words that a C function's contract holds of; the places of the words are the
 -- header's numbers. It is proved in proofs/, as acceptedInC. The parameters are those of the contracts: what was given and lent, and the
--- slices at exit (with a ′). Word 0 of an answer is the number word; the call is accepted where it is 0.
+-- slices at exit (with a ′). Word 0 of an answer is the number word; the call is accepted where it is 0. What an accepted continue call says is in
+-- specs/Demand3InC, and the refusal words are in specs/SaidInC.
 --   Checked f o′         of corkbingo_check:
 --     number       the number word is the file's number: that of the first condition of 1 to 8 that it meets, or 0
 --     sound        it is 0 exactly where the file keeps all rules of a file
@@ -23,6 +24,8 @@
 --   Tabled f s t s′ t′   of corkbingo_table, where the number word is 0:
 --     table        the first G entries of the table slice are the file's difference table, and the others as at entry
 --     scratch      the first N scratch entries are 0, and the others as at entry
+--   Continued f₁ f₂ s s′ of corkbingo_continue, where the number word is 0:
+--     scratch      the first scratch entries, as many as the larger N of the two files, are 0, and the others as at entry
 --   Written z w y y′ q′  a call is accepted with the answer q′; the first G entries of the slice y are then the list w, and the others as at entry
 -- Demand 2, of two calls of which the second reads what an accepted first one wrote, and lends a slice with room for G entries:
 --   SumOfTableInC        corkbingo_sum of what corkbingo_table wrote, with the file's sizes as words, writes the file's outputs on the grid
@@ -35,8 +38,10 @@ use Prim.Native.Nat.{ℕ, _+_, _≤_, _<_}
 use lib.ListN.{length, take, drop, replicate}
 use Rattle.bound.specs.Bound.{IsBound}
 use Rattle.differences.specs.Table.{listed}
+use Rattle.engine.specs.Engine.{largerCount}
 use Rattle.evaluate.specs.Evaluate.{outputOf}
 use Rattle.exports.specs.FileCalls.{CheckCall, OperationsCall, BoundCall, GridCall, EvaluateCall}
+use Rattle.exports.specs.SessionCalls.{ContinueCall}
 use Rattle.exports.specs.TableCalls.{TableCall, DifferenceCall, SumCall}
 use Rattle.file.specs.Accepted.{Accepted}
 use Rattle.file.specs.Check.{fileNumber}
@@ -81,6 +86,9 @@ pub record Tabled (f s t s′ t′ : List ℕ) : Type 0 where
   pub table : t′ ≡ tableOfFile f ++ drop (gridSize (sizesOf f)) t
   pub scratch : s′ ≡ replicate (stepCount f) 0 ++ drop (stepCount f) s
 
+pub record Continued (f₁ f₂ s s′ : List ℕ) : Type 0 where
+  pub scratch : s′ ≡ replicate (largerCount f₁ f₂) 0 ++ drop (largerCount f₁ f₂) s
+
 pub record Written (z : Sizes) (w y y′ q′ : List ℕ) : Type 0 where
   pub number : word q′ 0 ≡ 0
   pub entries : y′ ≡ w ++ drop (gridSize z) y
@@ -123,6 +131,9 @@ pub record AcceptedInC : Type 0 where
   pub evaluating :
       (f x s o s′ o′ : List ℕ) → EvaluateCall f x s o 1 s′ o′ → word o′ 0 ≡ 0 → Evaluated f x s s′ o′
   pub making : (f s t o s′ t′ o′ : List ℕ) → TableCall f s t o 1 s′ t′ o′ → word o′ 0 ≡ 0 → Tabled f s t s′ t′
+  pub continuing :
+      (f₁ f₂ : List ℕ) (B : ℕ) (w s a w′ s′ a′ : List ℕ) →
+      ContinueCall f₁ f₂ B w s a 1 w′ s′ a′ → word a′ 0 ≡ 0 → Continued f₁ f₂ s s′
   pub sumOfTable : SumOfTableInC
   pub differenceOfSum : DifferenceOfSumInC
   pub sumOfDifference : SumOfDifferenceInC

@@ -3,3 +3,5 @@ pub mod Demand3InC
 pub mod Made
 pub mod RefusedInC
 pub mod ReportInC
+pub mod SaidInC
+pub mod TakenInC

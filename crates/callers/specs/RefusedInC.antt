@@ -6,8 +6,10 @@
 -- Of each function, in a record of its own:
 --   wrong               where it returned 0, the answer slice is as at entry
 --   session, scratch, table, outputs    where it is not accepted, these words are as at entry
---   answer, out         where it is refused, the answer is the three words of the refusal, and zeros
+--   answer, out         where continuing or evaluating is refused, the answer is the three words of the refusal, and zeros
 --   zeros               where an opening is refused, all session words are 0
+--   text                where corkbingo_report returned 0, the text slice is as at entry
+-- The refusal words of every answer are in specs/SaidInC.
 use mathlib.Core.List.{List, _++_}
 use mathlib.Core.Logic.{_⊎_}
 use mathlib.Core.Path.{_≡_}
@@ -15,6 +17,7 @@ use Prim.Native.Nat.{ℕ, _-_}
 use lib.ListN.{length, replicate}
 use Rattle.evaluate.specs.Evaluate.{refusalAt}
 use Rattle.exports.specs.FileCalls.{CheckCall, OperationsCall, BoundCall, GridCall, EvaluateCall}
+use Rattle.exports.specs.ReportCalls.{ReportCall}
 use Rattle.exports.specs.SessionCalls.{OpenCall, ContinueCall}
 use Rattle.exports.specs.TableCalls.{TableCall, DifferenceCall, SumCall}
 use Rattle.exports.specs.Words.{evaluateLength}
@@ -63,6 +66,10 @@ pub record SumRefused (y o : List ℕ) (r : ℕ) (y′ o′ : List ℕ) : Type 0
   pub wrong : r ≡ 0 → o′ ≡ o
   pub outputs : NotAccepted r o′ → y′ ≡ y
 
+pub record ReportWrong (t o : List ℕ) (r : ℕ) (t′ o′ : List ℕ) : Type 0 where
+  pub wrong : r ≡ 0 → o′ ≡ o
+  pub text : r ≡ 0 → t′ ≡ t
+
 pub record RefusedInC : Type 0 where
   pub continuing :
       (f₁ f₂ : List ℕ) (B : ℕ) (w s a : List ℕ) (r : ℕ) (w′ s′ a′ : List ℕ) →
@@ -80,3 +87,6 @@ pub record RefusedInC : Type 0 where
   pub operations : (f o : List ℕ) (r : ℕ) (o′ : List ℕ) → OperationsCall f o r o′ → r ≡ 0 → o′ ≡ o
   pub bound : (m : ℕ) (o : List ℕ) (r : ℕ) (o′ : List ℕ) → BoundCall m o r o′ → r ≡ 0 → o′ ≡ o
   pub grid : (f o : List ℕ) (r : ℕ) (o′ : List ℕ) → GridCall f o r o′ → r ≡ 0 → o′ ≡ o
+  pub reporting :
+      (f₁ f₂ a : List ℕ) (n : ℕ) (t o : List ℕ) (r : ℕ) (t′ o′ : List ℕ) →
+      ReportCall f₁ f₂ a n t o r t′ o′ → ReportWrong t o r t′ o′

@@ -5,17 +5,28 @@
 --                            of all run words, writes what is printed of the files
 --   RefusedReportInC         opening is refused: corkbingo_report, given the answer words of a call of corkbingo_continue on the session words that
 --                            opening left, with a budget above 0, writes the line that is printed of the files
---   ReportTaken              corkbingo_report returns 1 where the answer has 15 words, the text slice 512 bytes or more, and the length slice one word
---   NoTextInC                where it returns 1 and the kind word is not 0, 2 or 3, there is no text
+-- Of any answer words, whoever made them, where corkbingo_report returned 1; the places of the words are the header's numbers:
+--   Stands P t t′ l′         a text with the property P stands at the start of the text slice, the bytes past it are untouched, and the length
+--                            word is its count of bytes
+--   RefusedTextInC           the kind word is 0: the text is the one line of the refusal that words 0, 1 and 2 are
+--   VerdictTextInC           the kind word is 2 or 3, and opening the files is accepted: the text shows the verdict with the answer's words as they are
+--   ShowsWords f₁ a n text   the text is three lines: the grid, the verdict that the answer words a give, and n
+--   NoTextInC                the kind word is not 0, 2 or 3, or it is 2 or 3 and opening the files is refused: there is no text
 --   NoText t t′ l′           the text slice is as at entry, and the length word is 0
+-- Which calls it takes is in specs/TakenInC.
 use mathlib.Core.List.{List, [], _∷_, _++_}
+use mathlib.Core.Logic.{_⊎_}
 use mathlib.Core.Path.{_≡_}
-use Prim.Native.Nat.{ℕ, _≤_, _<_}
-use lib.ListN.{length, drop}
+use Prim.Native.Nat.{ℕ, _<_}
+use lib.ListN.{length, take, drop}
 use Rattle.exports.specs.ReportCalls.{ReportCall}
 use Rattle.exports.specs.SessionCalls.{OpenCall, ContinueCall}
+use Rattle.file.specs.File.{sizesOf}
 use Rattle.layouts.specs.Lengths.{word, atNumber}
+use Rattle.report.specs.Claims.{wordsOf, differWords, ThreeLines, Refuses}
 use Rattle.report.specs.Report.{printed}
+use Rattle.report.specs.Text.{ascii}
+use Rattle.sessions.specs.Session.{opened}
 use Rattle.callers.specs.Made.{Made, Chain, Each, GivesVerdict, Allowed, runs}
 
 pub record ShownInC (f₁ f₂ t t′ l′ : List ℕ) : Type 0 where
@@ -49,24 +60,52 @@ RefusedReportInC =
     ReportCall f₁ f₂ a′ n t l 1 t′ l′ →
     ShownInC f₁ f₂ t t′ l′
 
-abbrev pub ReportTaken : Type 0
-ReportTaken =
-    (f₁ f₂ a : List ℕ) (n : ℕ) (t l : List ℕ) (r : ℕ) (t′ l′ : List ℕ) →
-    ReportCall f₁ f₂ a n t l r t′ l′ →
-    length a ≡ 15 →
-    512 ≤ length t →
-    length l ≡ 1 →
-    r ≡ 1
-
 pub record NoText (t t′ l′ : List ℕ) : Type 0 where
   pub text : t′ ≡ t
   pub count : l′ ≡ 0 ∷ []
 
-abbrev pub NoTextInC : Type 0
-NoTextInC =
+pub record Stands (P : List ℕ → Type 0) (t t′ l′ : List ℕ) : Type 0 where
+  pub said : List ℕ
+  pub told : P said
+  pub text : t′ ≡ said ++ drop (length said) t
+  pub count : l′ ≡ length said ∷ []
+
+abbrev pub RefusedTextInC : Type 0
+RefusedTextInC =
     (f₁ f₂ a : List ℕ) (n : ℕ) (t l t′ l′ : List ℕ) →
     ReportCall f₁ f₂ a n t l 1 t′ l′ →
-    ¬ (word a 3 ≡ 0) →
-    ¬ (word a 3 ≡ 2) →
-    ¬ (word a 3 ≡ 3) →
-    NoText t t′ l′
+    word a 3 ≡ 0 →
+    Stands (Refuses (record { number = word a 0; file = word a 1; step = word a 2 })) t t′ l′
+
+pub record ShowsWords (f₁ a : List ℕ) (n : ℕ) (text : List ℕ) : Type 0 where
+  -- the line of the verdict
+  pub verdict : List ℕ
+  -- it stands between the grid and n
+  pub lines : ThreeLines f₁ n verdict text
+  -- that one word where the kind word is 2
+  pub equivalent : word a 3 ≡ 2 → verdict ≡ ascii "equivalent"
+  -- where it is 3, the first d words of the vector, and the two output words
+  pub differs : word a 3 ≡ 3 → wordsOf verdict ≡ differWords (take (sizesOf f₁ .d) (drop 5 a)) (word a 13) (word a 14)
+
+abbrev pub VerdictTextInC : Type 0
+VerdictTextInC =
+    (f₁ f₂ a : List ℕ) (n : ℕ) (t l t′ l′ : List ℕ) →
+    ReportCall f₁ f₂ a n t l 1 t′ l′ →
+    opened f₁ f₂ .refusal .number ≡ 0 →
+    (word a 3 ≡ 2) ⊎ (word a 3 ≡ 3) →
+    Stands (ShowsWords f₁ a n) t t′ l′
+
+pub record NoTextInC : Type 0 where
+  pub kinds :
+      (f₁ f₂ a : List ℕ) (n : ℕ) (t l t′ l′ : List ℕ) →
+      ReportCall f₁ f₂ a n t l 1 t′ l′ →
+      ¬ (word a 3 ≡ 0) →
+      ¬ (word a 3 ≡ 2) →
+      ¬ (word a 3 ≡ 3) →
+      NoText t t′ l′
+  pub unopened :
+      (f₁ f₂ a : List ℕ) (n : ℕ) (t l t′ l′ : List ℕ) →
+      ReportCall f₁ f₂ a n t l 1 t′ l′ →
+      ¬ (opened f₁ f₂ .refusal .number ≡ 0) →
+      (word a 3 ≡ 2) ⊎ (word a 3 ≡ 3) →
+      NoText t t′ l′

@@ -42,7 +42,7 @@ same-refl z =
     (every-of _ 0 maxInputs (λ i _ _. eq-eqb (getD (z .widths) i 0) (getD (z .widths) i 0) refl))
 
 -- the answer to an accepted call is no refusal
-progress-accepts : (s₁ s₂ : List ℕ) (z : Session) (B G q : ℕ) → progress s₁ s₂ z B G q .answer .refusal ≡ accepted
+pub progress-accepts : (s₁ s₂ : List ℕ) (z : Session) (B G q : ℕ) → progress s₁ s₂ z B G q .answer .refusal ≡ accepted
 unfolding progress differsAnswer plainAnswer
 progress-accepts s₁ s₂ z B G q =
     ⊎-elim

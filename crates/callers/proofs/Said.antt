@@ -1,0 +1,193 @@
+-- The refusal words of a C call that returned 1: they are the words of the library's refusal, and a refusal with the number 0 shows no file and
+-- no step, since each definition picks one of those that show none, or what a file is refused by, whose number is then not 0.
+use mathlib.Core.Bool.{Bool, true, false, not, cond}
+use mathlib.Core.List.{List, [], _∷_, _++_}
+use mathlib.Core.Logic.{⊎-elim}
+use mathlib.Core.Path.{_≡_, refl, sym, _∙_, ap}
+use Prim.Native.Nat.{ℕ}
+use native.Mathlib.Decide.{ℕ-discrete}
+use native.Mathlib.Omega.{arith}
+use lib.Dec.{eqb}
+use lib.ListN.{length}
+use borrow.Author.Tests.{eq-eqb, ne-eqb, eqb-true, not-false}
+use Rattle.engine.specs.Engine.{largerCount}
+use Rattle.evaluate.specs.Evaluate.{shortScratch, badVector, refusalAt, evaluatedAt}
+use Rattle.exports.specs.FileCalls.{CheckCall, BoundCall, GridCall, EvaluateCall}
+use Rattle.exports.specs.SessionCalls.{openFits, OpenCall, continueFits, continuing, ContinueCall}
+use Rattle.exports.specs.TableCalls.{cellsFit, TableCall, DifferenceCall, SumCall}
+use Rattle.exports.specs.Layout.{has}
+use Rattle.exports.specs.Words.{boundWords, gridWords, noGrid, gridAsWords}
+use Rattle.exports.proofs.Answered.{grid-refused, grid-accepted}
+use Rattle.file.specs.Check.{fileNumber, refusalOf}
+use Rattle.file.specs.File.{sizesOf, stepCount}
+use Rattle.grid.specs.Grid.{gridSize, gridOf, tooLarge}
+use Rattle.layouts.specs.AnswerWords.{refusalWords, kindWord, answerWords}
+use Rattle.layouts.specs.Lengths.{word}
+use Rattle.layouts.specs.SessionWords.{sessionFrom}
+use Rattle.layouts.specs.SizeWords.{sizesFrom}
+use Rattle.search.proofs.Search.{true-or-false}
+use Rattle.sessions.specs.Session.{sameSizes, isRefusal, pairRefusal, misplaced, isClosed, stateRefusal, opened, continueRefusal, refusedAnswer, advanced, continued}
+use Rattle.sessions.specs.declared.Answer.{Answer}
+use Rattle.sessions.specs.declared.Session.{Session}
+use Rattle.sessions.proofs.Step.{progress-accepts}
+use Rattle.sizes.specs.Sizes.{within, badOutput, badInputs, badWidths, refusedBy, accepted}
+use Rattle.sizes.specs.declared.Refusal.{Refusal}
+use Rattle.sizes.specs.declared.Sizes.{Sizes}
+use Rattle.tables.specs.Tables.{shortSlice, badCells, tableRefusal, cellsRefusal}
+use Rattle.callers.specs.SaidInC.{Says, boundRefusal, SaidInC}
+use Rattle.callers.proofs.Accepted.{wrote}
+
+-- a refusal with the number 0 is acceptance
+record Plain (q : Refusal) : Type 0 where
+  passes : q .number ≡ 0 → q ≡ accepted
+
+plain-by : (n : ℕ) → Plain (refusedBy n)
+plain-by n = record { passes = λ e. ap refusedBy e }
+
+plain-cond : (b : Bool) {p q : Refusal} → Plain p → Plain q → Plain (cond b p q)
+plain-cond true x y = x
+plain-cond false x y = y
+
+plain-file : (w : ℕ) (s : List ℕ) → Plain (refusalOf w s)
+unfolding refusalOf
+plain-file w s =
+    elim (ℕ-discrete (fileNumber s) 0) [
+      | yes e ↦ rw (eq-eqb (fileNumber s) 0 e) (record { passes = λ _. refl })
+      | no n ↦ rw (ne-eqb (fileNumber s) 0 n) (record { passes = λ e. absurd (n e) })
+    ]
+
+plain-at : (s x : List ℕ) (len : ℕ) → Plain (refusalAt s x len)
+unfolding refusalAt
+plain-at s x len =
+    plain-cond (eqb (fileNumber s) 0)
+    (plain-cond (shortScratch (stepCount s) len) (plain-by 12)
+    (plain-cond (badVector (sizesOf s) x) (plain-by 14) (plain-by 0)))
+    (plain-file 1 s)
+
+plain-table : (s : List ℕ) (room len : ℕ) → Plain (tableRefusal s room len)
+unfolding tableRefusal
+plain-table s room len =
+    plain-cond (eqb (fileNumber s) 0)
+    (plain-cond (tooLarge (sizesOf s)) (plain-by 10)
+    (plain-cond (shortScratch (stepCount s) room) (plain-by 12)
+    (plain-cond (shortSlice (gridSize (sizesOf s)) len) (plain-by 13) (plain-by 0))))
+    (plain-file 1 s)
+
+plain-cells : (z : Sizes) (cells : List ℕ) (len : ℕ) → Plain (cellsRefusal z cells len)
+unfolding cellsRefusal
+plain-cells z cells len =
+    plain-cond (badOutput z) (plain-by 2)
+    (plain-cond (badInputs z) (plain-by 3)
+    (plain-cond (badWidths z) (plain-by 5)
+    (plain-cond (tooLarge z) (plain-by 10)
+    (plain-cond (badCells z cells len) (plain-by 13) (plain-by 0)))))
+
+plain-pair : (s₁ s₂ : List ℕ) → Plain (pairRefusal s₁ s₂)
+unfolding pairRefusal
+plain-pair s₁ s₂ =
+    plain-cond (not (eqb (fileNumber s₁) 0)) (plain-file 1 s₁)
+    (plain-cond (not (eqb (fileNumber s₂) 0)) (plain-file 2 s₂)
+    (plain-cond (not (sameSizes (sizesOf s₁) (sizesOf s₂))) (plain-by 9)
+    (plain-cond (tooLarge (sizesOf s₁)) (plain-by 10) (plain-by 0))))
+
+plain-state : (w : Sizes) (G : ℕ) (z : Session) → Plain (stateRefusal w G z)
+unfolding stateRefusal
+plain-state w G z =
+    plain-cond (not (sameSizes (z .sizes) w)) (plain-by 101)
+    (plain-cond (misplaced G (z .position) (z .mark)) (plain-by 102)
+    (plain-cond (isClosed (z .mark)) (plain-by 103) (plain-by 0)))
+
+plain-continue : (s₁ s₂ : List ℕ) (z : Session) (B len : ℕ) → Plain (continueRefusal s₁ s₂ z B len)
+unfolding continueRefusal
+plain-continue s₁ s₂ z B len =
+    plain-cond (eqb B 0) (plain-by 11)
+    (plain-cond (isRefusal (pairRefusal s₁ s₂)) (plain-pair s₁ s₂)
+    (plain-cond (shortScratch (largerCount s₁ s₂) len) (plain-by 12)
+    (plain-state (sizesOf s₁) (gridSize (sizesOf s₁)) z)))
+
+plain-opened : (s₁ s₂ : List ℕ) → Plain (opened s₁ s₂ .refusal)
+unfolding opened
+plain-opened s₁ s₂ = plain-pair s₁ s₂
+
+plain-bound : (m : ℕ) → Plain (boundRefusal m)
+plain-bound m = plain-cond (within 1 64 m) (plain-by 0) (plain-by 2)
+
+-- words that begin with a refusal's say it
+says : (q : Refusal) (o rest : List ℕ) → o ≡ refusalWords q ++ rest → Plain q → Says q o
+says q o rest e p =
+    let n : word o 0 ≡ q .number = ap (λ l. word l 0) e in
+    let f : word o 1 ≡ q .file = ap (λ l. word l 1) e in
+    let s : word o 2 ≡ q .step = ap (λ l. word l 2) e in
+    record {
+      number = n;
+      file = f;
+      step = s;
+      no-file = λ z. f ∙ ap (λ (r : Refusal). r .file) (p .passes (sym n ∙ z));
+      no-step = λ z. s ∙ ap (λ (r : Refusal). r .step) (p .passes (sym n ∙ z));
+    }
+
+bound-begins : (m : ℕ) → boundWords m ≡ refusalWords (boundRefusal m) ++ (word (boundWords m) 3 ∷ [])
+unfolding boundWords
+bound-begins m =
+    ⊎-elim (λ (e : within 1 64 m ≡ true). rw e) (λ (e : within 1 64 m ≡ false). rw e) (true-or-false (within 1 64 m))
+
+-- the words of a grid, accepted or refused
+grid-says : (f o : List ℕ) → o ≡ gridWords f → Says (refusalOf 1 f) o
+unfolding refusalOf
+grid-says f o e =
+    elim (ℕ-discrete (fileNumber f) 0) [
+      | yes z ↦ says (refusalOf 1 f) o (gridAsWords (gridOf (sizesOf f))) (e ∙ grid-accepted f z ∙ rw (eq-eqb (fileNumber f) 0 z)) (plain-file 1 f)
+      | no n ↦ says (refusalOf 1 f) o noGrid (e ∙ grid-refused f n) (plain-file 1 f)
+    ]
+
+-- the refusal that a continue call's answer carries
+module _ (f₁ f₂ : List ℕ) (z : Session) (B len : ℕ) where
+  abbrev R : Refusal
+  R = continueRefusal f₁ f₂ z B len
+
+  carried : continued f₁ f₂ z B len .answer .refusal ≡ R
+  unfolding continued advanced refusedAnswer
+  carried =
+      ⊎-elim
+      (λ (e : isRefusal R ≡ true). rw e)
+      (λ (e : isRefusal R ≡ false). rw e (progress-accepts f₁ f₂ z B _ _ ∙ sym (plain-continue f₁ f₂ z B len .passes (eqb-true (R .number) 0 (not-false _ e)))))
+      (true-or-false (isRefusal R))
+
+-- the words of an answer after its refusal
+abbrev after : Answer → List ℕ
+after a = kindWord (a .kind) ∷ a .run ∷ (a .vector ++ (a .output1 ∷ a .output2 ∷ []))
+
+answer-begins : (a : Answer) → answerWords a ≡ refusalWords (a .refusal) ++ after a
+unfolding answerWords
+answer-begins a = refl
+
+continue-says :
+    (f₁ f₂ : List ℕ) (B : ℕ) (w s a w′ s′ a′ : List ℕ) → ContinueCall f₁ f₂ B w s a 1 w′ s′ a′ →
+    Says (continueRefusal f₁ f₂ (sessionFrom w) B (length s)) a′
+continue-says f₁ f₂ B w s a w′ s′ a′ h =
+    let answer = continuing f₁ f₂ w B s .answer in
+    says (continueRefusal f₁ f₂ (sessionFrom w) B (length s)) a′ (after answer)
+    (wrote (continueFits w a) (answerWords answer) a a′ (h .result) (h .answer)
+    ∙ answer-begins answer
+    ∙ ap (λ (r : Refusal). refusalWords r ++ after answer) (carried f₁ f₂ (sessionFrom w) B (length s)))
+    (plain-continue f₁ f₂ (sessionFrom w) B (length s))
+
+pub saidInC : SaidInC
+unfolding evaluatedAt
+saidInC =
+    record {
+      checking = λ f o o′ h. says (refusalOf 1 f) o′ [] (wrote (has 3 o) _ o o′ (h .result) (h .out)) (plain-file 1 f);
+      bound = λ m o o′ h. says (boundRefusal m) o′ _ (wrote (has 4 o) _ o o′ (h .result) (h .out) ∙ bound-begins m) (plain-bound m);
+      grid = λ f o o′ h. grid-says f o′ (wrote (has 12 o) _ o o′ (h .result) (h .out));
+      evaluating = λ f x s o s′ o′ h.
+          says (refusalAt f x (length s)) o′ _ (wrote (has 4 o) _ o o′ (h .result) (h .out)) (plain-at f x (length s));
+      making = λ f s t o s′ t′ o′ h.
+          says (tableRefusal f (length s) (length t)) o′ [] (wrote (has 3 o) _ o o′ (h .result) (h .out)) (plain-table f _ _);
+      differencing = λ z y t o t′ o′ h.
+          says (cellsRefusal (sizesFrom z) y (length t)) o′ [] (wrote (cellsFit z o) _ o o′ (h .result) (h .out)) (plain-cells _ y _);
+      summing = λ z t y o y′ o′ h.
+          says (cellsRefusal (sizesFrom z) t (length y)) o′ [] (wrote (cellsFit z o) _ o o′ (h .result) (h .out)) (plain-cells _ t _);
+      opening = λ f₁ f₂ w o w′ o′ h.
+          says (opened f₁ f₂ .refusal) o′ [] (wrote (openFits w o) _ o o′ (h .result) (h .out)) (plain-opened f₁ f₂);
+      continuing = continue-says;
+    }

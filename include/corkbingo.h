@@ -205,9 +205,9 @@ uint32_t corkbingo_continue(const uint8_t *file1, size_t file1_len,
                             uint64_t *answer, size_t answer_len);
 
 /* Writes the text that the comparing program prints at the start of the text slice, for an answer
- * of corkbingo_continue on these files and `run`, the vectors run over all calls. The text slice has
- * CORKBINGO_TEXT_BYTES or more, else the call returns 0. Answer, 1 word: the length of the text. By
- * the answer's kind:
+ * of corkbingo_continue on these files and `run`, the vectors run over all calls. The answer has
+ * CORKBINGO_CONTINUE_WORDS words, whatever they are, and the text slice CORKBINGO_TEXT_BYTES or
+ * more; else the call returns 0. Answer, 1 word: the length of the text. By the answer's kind:
  *
  *   refused                 the line of the refusal: refused, number, file, step
  *   equivalent, differs     three lines: the grid, the verdict, the vectors run; no text where

@@ -1,9 +1,9 @@
 // The engine: two files compared over the places of the grid.
-use blocks::by_blocks;
 use evaluate::output_at;
 use file::fields::read_sizes;
 use file::fields::step_count;
 use grid::grid_of;
+use spans::by_blocks;
 use vectors::next_vector;
 use vectors::vector_at;
 ghost use mathlib.Core.Path.{_≡_};

@@ -1,4 +1,4 @@
--- `blocks::agreed_rows` meets its contract. The loop's invariant: the outputs agree at every place of the rows from `from` to before r.
+-- `spans::agreed_rows` meets its contract. The loop's invariant: the outputs agree at every place of the rows from `from` to before r.
 -- Assumes nothing.
 use mathlib.Core.Bool.{Bool, false, not}
 use mathlib.Core.List.{List}
@@ -23,11 +23,11 @@ use Rattle.lists.proofs.Lists.{drop-later}
 use Rattle.places.specs.Places.{size, vectorAt}
 use Rattle.rows.specs.Rows.{lane}
 use Rattle.sizes.specs.Sizes.{maxInputs}
 use Rattle.blocks.specs.Block.{Front}
 use Rattle.blocks.proofs.Along.{axis-at}
-use Rattle.blocks.proofs.GridRows.{size-rows, axis-pos, front-below, front-end, row-front, row-last}
-use Rattle.blocks.proofs.agreed_rows.Statement.{statement}
-use Rattle.blocks.proofs.agreed_rows.Tie as tie
+use Rattle.spans.proofs.GridRows.{size-rows, axis-pos, front-below, front-end, row-front, row-last}
+use Rattle.spans.proofs.agreed_rows.Statement.{statement}
+use Rattle.spans.proofs.agreed_rows.Tie as tie
 
 record Passed (w : ℕ) (turn : Bool) (s₁ s₂ : List ℕ) (n₁ n₂ d : ℕ) (axes : List ℕ) (from stop : ℕ) (rows₁₀ rows₂₀ rows₁ rows₂ inputs : List ℕ) (r : ℕ) : Type 0 where
   prepared : Prepared w turn s₁ s₂ n₁ n₂ d axes rows₁ rows₂

@@ -1,4 +1,4 @@
--- `blocks::by_blocks` meets its contract: the search over the head ends it or passes the head, the rows found to agree are passed, and the search
+-- `spans::by_blocks` meets its contract: the search over the head ends it or passes the head, the rows found to agree are passed, and the search
 -- goes on behind them.
 -- Assumes nothing.
 use mathlib.Core.Bool.{Bool}
@@ -12,9 +12,9 @@ use lib.ListN.{length, getD}
 use Rattle.batches.proofs.Tests.{prepared-kept}
 use Rattle.search.specs.Search.{first}
 use Rattle.search.proofs.Search.{first-before, NoneBelow, first-past, first-part}
-use Rattle.blocks.proofs.GridRows.{axis-pos}
-use Rattle.blocks.proofs.by_blocks.Statement.{statement}
-use Rattle.blocks.proofs.by_blocks.Tie as tie
+use Rattle.spans.proofs.GridRows.{axis-pos}
+use Rattle.spans.proofs.by_blocks.Statement.{statement}
+use Rattle.spans.proofs.by_blocks.Tie as tie
 
 -- a row at most the count of the whole rows before `end` starts at `end` or before it
 row-start : (u end row : ℕ) → row ≤ end / u → row * u ≤ end

@@ -1,6 +1,7 @@
 -- What the comparing program does with two files (document 01, 'Sessions' and 'Pairs').
 --   callBudget              the budget of each continue call
 --   ownCall f₁ f₂           a continue call with these files, that budget and a scratch slice of maxSteps entries
+--   OwnCalls f₁ f₂          its fields as numbers. Proved in proofs/Own
 --   Concluded f₁ f₂ a n     the session that opening gave was continued by such calls alone, to the verdict a, and all calls together ran n vectors
 --   PrintedOfStarts         of a file that is longer than any that is accepted, its first bytes print what the whole file does. Proved in
 --                           proofs/Long
@@ -20,6 +21,12 @@ callBudget = 1000000
 
 abbrev pub ownCall : List ℕ → List ℕ → Call
 ownCall f₁ f₂ = record { file₁ = f₁; file₂ = f₂; budget = callBudget; scratch = maxSteps }
+
+pub record OwnCalls (f₁ f₂ : List ℕ) : Type 0 where
+  pub first : ownCall f₁ f₂ .file₁ ≡ f₁
+  pub second : ownCall f₁ f₂ .file₂ ≡ f₂
+  pub budget : ownCall f₁ f₂ .budget ≡ 1000000
+  pub scratch : ownCall f₁ f₂ .scratch ≡ 1024
 
 pub record Concluded (f₁ f₂ : List ℕ) (a : Answer) (n : ℕ) : Type 0 where
   -- so many calls came before the one that gave the verdict

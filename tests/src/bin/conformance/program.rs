@@ -370,7 +370,7 @@ fn status(bench: &mut Bench) -> Outcome {
 }
 
 /// The linked program takes no names or two. With another count it compares nothing, though files of
-/// the fixed names are there.
+/// the fixed names are there. A name that is empty or longer than any path names no file.
 fn arguments(bench: &mut Bench) -> Outcome {
     let folder = Folder::new("arguments")?;
     folder.write("a.dp", &SAMPLE_A)?;
@@ -387,15 +387,22 @@ fn arguments(bench: &mut Bench) -> Outcome {
             format!("{count} arguments")
         })?;
     }
-    let long = "x".repeat(5_000);
-    let mut command = Command::new(linked()?);
-    let run = told(command.args(["a.dp", long.as_str()]).current_dir(&folder.0))?;
-    bench.same(run.lines.as_str(), "refused 1 2 0\n", || {
-        String::from("a name of 5,000 bytes")
-    })?;
-    bench.same(&run.said.starts_with("file name: "), &true, || {
-        run.said.clone()
-    })
+    // The longest path has 4,095 bytes; slashes fill a name up.
+    let filled = |length: usize| format!(".{}b.dp", "/".repeat(length - 5));
+    let no_name = ("refused 1 2 0\n", "file name: empty or too long\n");
+    for (name, expected) in [
+        (filled(4_095), (SAMPLE_LINES, "")),
+        (filled(4_096), no_name),
+        (filled(5_000), no_name),
+        (String::new(), no_name),
+    ] {
+        let mut command = Command::new(linked()?);
+        let run = told(command.args(["a.dp", &name]).current_dir(&folder.0))?;
+        bench.same(&(run.lines.as_str(), run.said.as_str()), &expected, || {
+            format!("a name of {} bytes", name.len())
+        })?;
+    }
+    Ok(())
 }
 
 /// Reads that bring few bytes at a time, reads that fail midway, and writes: a file of which some

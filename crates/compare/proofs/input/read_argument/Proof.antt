@@ -1,11 +1,8 @@
--- `compare::input::read_argument` meets its contract: a name that is missing or too long gives no bytes.
+-- `compare::input::read_argument` meets its contract: a name that is missing, empty or too long gives no bytes.
 use Rattle.compare.proofs.Unread.{none-read}
 use borrow.Author.Needs.{needs}
 use Rattle.compare.proofs.input.read_argument.Statement.{statement}
 use Rattle.compare.proofs.input.read_argument.Tie as tie
-
-buffer-requires : tie.Need-buffer-requires
-buffer-requires c κs = search needs
 
 slice-aggregate-arg : tie.Need-slice-aggregate-arg
 slice-aggregate-arg c = search needs
@@ -13,11 +10,8 @@ slice-aggregate-arg c = search needs
 arg-requires : tie.Need-arg-requires
 arg-requires c κs = search needs
 
-slice-aggregate-fail : tie.Need-slice-aggregate-fail
-slice-aggregate-fail c = search needs
-
-fail-requires : tie.Need-fail-requires
-fail-requires c κs = search needs
+say-no-name-requires : tie.Need-say-no-name-requires
+say-no-name-requires c κs = search needs
 
 unread-requires : tie.Need-unread-requires
 unread-requires c κs = search needs
@@ -44,11 +38,9 @@ pub read-argument-spec : {M : Type 1} → statement M
 read-argument-spec =
     tie.close
     (tie.spec
-    buffer-requires
     slice-aggregate-arg
     arg-requires
-    slice-aggregate-fail
-    fail-requires
+    say-no-name-requires
     unread-requires
     returns
     array-share-prefix-path

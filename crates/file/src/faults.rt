@@ -1,4 +1,6 @@
 // What a datapath file breaks: conditions 1 to 6 on the head and the length, then 7 and 8 on each step.
+use crate::fields::HEAD;
+use crate::fields::STEPS;
 use crate::fields::argument;
 use crate::fields::left_operand;
 use crate::fields::operation;
@@ -20,7 +22,7 @@ ghost use Rattle.file.specs.Headed.{Headed};
 pub fn head_fault(file: &[u8]) -> u64
     ensures { λ r. ⌜ r ≡ headFault (now (file .entry)) ⌝ }
 {
-    if file.len() < 12 {
+    if file.len() < HEAD {
         return 1;
     }
     let z = read_sizes(file);
@@ -31,13 +33,13 @@ pub fn head_fault(file: &[u8]) -> u64
         return 3;
     }
     let n = step_count(file);
-    if !within(1, 1024, n as u64) {
+    if !within(1, STEPS as u64, n as u64) {
         return 4;
     }
     if bad_widths(z) {
         return 5;
     }
-    if file.len() != 12 + 9 * n {
+    if file.len() != HEAD + 9 * n {
         return 6;
     }
     0

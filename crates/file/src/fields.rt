@@ -7,6 +7,12 @@ ghost use Prim.Native.Nat.{_+_, _*_, _^_, _≤_, _<_};
 ghost use lib.ListN.{length};
 ghost use Rattle.file.specs.File.{headLength, sizesOf, stepCount, operation, argument, leftOperand, rightOperand};
 
+// The bytes of the head, before the operation bytes.
+pub const HEAD: usize = 12;
+
+// The largest count of steps.
+pub const STEPS: usize = 1024;
+
 // m, d and the word lengths.
 pub fn read_sizes(file: &[u8]) -> Sizes
     requires { ⌜ headLength ≤ length (now file) ⌝ }
@@ -41,7 +47,7 @@ pub fn operation(file: &[u8], k: usize) -> u8
     requires { ⌜ headLength + k < length (now file) ⌝ }
     ensures { λ r. ⌜ (r ≡ operation (now (file .entry)) k) × (r < 2 ^ 8) ⌝ }
 {
-    file[12 + k]
+    file[HEAD + k]
 }
 
 // The argument of step k, given N.
@@ -49,7 +55,7 @@ pub fn argument(file: &[u8], n: usize, k: usize) -> u64
     requires { ⌜ (n ≡ stepCount (now file)) × (headLength + n + 8 * k + 8 ≤ length (now file)) ⌝ }
     ensures { λ r. ⌜ (r ≡ argument (now (file .entry)) k) × (r < 2 ^ 64) ⌝ }
 {
-    le64(file, 12 + n + 8 * k)
+    le64(file, HEAD + n + 8 * k)
 }
 
 // Of an argument of 64 bits: the left step, in the low 16 bits.

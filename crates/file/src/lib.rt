@@ -2,6 +2,7 @@
 use crate::faults::faulty_step;
 use crate::faults::head_fault;
 use crate::faults::step_fault;
+use crate::fields::HEAD;
 use crate::fields::read_sizes;
 use crate::fields::step_count;
 use sizes::Refusal;
@@ -59,6 +60,6 @@ pub fn operations(file: &[u8]) -> &[u8]
         return &file[0..0];
     }
     let n = step_count(file);
-    let end = 12 + n;
-    &file[12..end]
+    let end = HEAD + n;
+    &file[HEAD..end]
 }

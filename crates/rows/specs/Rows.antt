@@ -2,7 +2,7 @@
 --   maxLanes                    the most lanes of a row
 --   lane w ws k l               lane l of row k
 --   Written w before after k f  only row k was written: its lane l is f l, and every other row is as before
---   Column w before after l v   only lane l of the first 8 rows was written, with the entries of v
+--   Column w before after l v   only lane l of the first maxInputs rows was written, with the entries of v
 --   sums w ws a b l             lane l of the sum of rows a and b modulo 2^64; so differences and products
 --   lowProducts w ws a b l      the product of the low 32 bits of that lane of the two rows
 --   unequal w m v a u b l       a test: lane l of row a of v and of row b of u differ modulo 2^m
@@ -13,6 +13,7 @@ use mathlib.Core.List.{List}
 use Prim.Native.Nat.{ℕ, _+_, _*_, _-_, _%_, _^_, _≤_, _<_}
 use lib.Dec.{eqb}
 use lib.ListN.{length, getD}
+use Rattle.sizes.specs.Sizes.{maxInputs}
 
 abbrev pub maxLanes : ℕ
 maxLanes = 16
@@ -25,7 +26,7 @@ pub record Written (w : ℕ) (before after : List ℕ) (k : ℕ) (f : ℕ → �
   pub others : (i l : ℕ) → l < w → ¬ (i ≡ k) → lane w after i l ≡ lane w before i l
 
 pub record Column (w : ℕ) (before after : List ℕ) (l : ℕ) (v : List ℕ) : Type 0 where
-  pub set : (i : ℕ) → i < 8 → lane w after i l ≡ getD v i 0
+  pub set : (i : ℕ) → i < maxInputs → lane w after i l ≡ getD v i 0
   pub others : (i k : ℕ) → k < w → ¬ (k ≡ l) → lane w after i k ≡ lane w before i k
 
 abbrev pub sums : ℕ → List ℕ → ℕ → ℕ → ℕ → ℕ

@@ -1,19 +1,24 @@
 // Rows of w lanes in a slice: one operation at a time is done on all lanes of a row. The loops are short enough to be inlined where w is a constant, and
 // compile to straight-line code there.
+use sizes::INPUTS;
 use words::cut;
 use words::wrapping_mul;
 ghost use mathlib.Core.Path.{_≡_};
 ghost use Prim.Native.Nat.{ℕ, _+_, _*_, _≤_, _<_};
 ghost use lib.ListN.{length, getD};
 ghost use Rattle.search.specs.Search.{first};
+ghost use Rattle.sizes.specs.Sizes.{maxInputs};
 ghost use Rattle.rows.specs.Rows.{maxLanes, lane, Written, Column, sums, differences, products, lowProducts, unequal, Operands};
 
+// The most lanes of a row.
+pub const LANES: usize = 16;
+
 // Row k, copied to the first w entries.
-fn row(rows: &[u64], k: usize, w: usize) -> [u64; 16]
+fn row(rows: &[u64], k: usize, w: usize) -> [u64; LANES]
     requires { ⌜ (w ≤ maxLanes) × (w * k + w ≤ length (now rows)) ⌝ }
     ensures { λ r. ⌜ ((l : ℕ) → l < w → getD r l 0 ≡ lane w (now (rows .entry)) k l) ⌝ }
 {
-    let mut x = [0u64; 16];
+    let mut x = [0u64; LANES];
     let mut l = 0;
     while l < w {
         x[l] = rows[w * k + l];
@@ -105,13 +110,13 @@ pub fn multiply_low_rows(rows: &mut [u64], k: usize, a: usize, b: usize, w: usiz
     }
 }
 
-// Lane l of the first 8 rows becomes v.
-pub fn set_column(rows: &mut [u64], l: usize, v: [u64; 8], w: usize)
-    requires { ⌜ (l < w) × (w * 8 ≤ length (now rows)) ⌝ }
+// Lane l of the first INPUTS rows becomes v.
+pub fn set_column(rows: &mut [u64], l: usize, v: [u64; INPUTS], w: usize)
+    requires { ⌜ (l < w) × (w * maxInputs ≤ length (now rows)) ⌝ }
     ensures { λ _. ⌜ Column w (now (rows .entry)) (now (rows .exit)) l v ⌝ }
 {
     let mut i = 0;
-    while i < 8 {
+    while i < INPUTS {
         rows[w * i + l] = v[i];
         i += 1;
     }

@@ -11,11 +11,14 @@ ghost use Rattle.sizes.specs.Sizes.{
   refusedBy,
 };
 
+// The largest count of inputs, which is also the count of word-length bytes.
+pub const INPUTS: usize = 8;
+
 // m, the output word length; d, the count of inputs; and the word lengths of the inputs.
 pub struct Sizes {
     pub m: u8,
     pub d: u8,
-    pub widths: [u8; 8],
+    pub widths: [u8; INPUTS],
 }
 
 // Document 01's refusal: its number, the file (1 or 2, else 0) and the step (else 0). Number 0: accepted.
@@ -59,7 +62,7 @@ pub fn bad_inputs(z: Sizes) -> bool
     ensures { λ r. ⌜ r ≡ badInputs z ⌝ }
 {
     let d = z.d as u64;
-    !within(1, 8, d)
+    !within(1, INPUTS as u64, d)
 }
 
 // Whether word length i keeps its rule: 1 to 64 for one of the first d, else 0.
@@ -81,7 +84,7 @@ pub fn bad_widths(z: Sizes) -> bool
     ensures { λ r. ⌜ r ≡ badWidths z ⌝ }
 {
     let mut i = 0;
-    while i < 8 {
+    while i < INPUTS {
         if !width_rule(z, i) {
             return true;
         }

@@ -9,13 +9,14 @@ use file::fields::step_count;
 use sizes::Refusal;
 use sizes::Sizes;
 use sizes::refused_by;
+use slices::clear;
 use words::cut;
 use words::wrapping_mul;
 ghost use mathlib.Core.Path.{_≡_};
 ghost use mathlib.Core.List.{_++_, map};
 ghost use Prim.Native.Nat.{_≤_, _<_};
 ghost use lib.IntN.{ℤ};
-ghost use lib.ListN.{length, drop, replicate};
+ghost use lib.ListN.{length, drop};
 ghost use Rattle.file.specs.Steps.{stepAt, stepsOf};
 ghost use Rattle.steps.specs.Steps.{stepValue, values};
 ghost use Rattle.words.specs.Words.{word};
@@ -56,18 +57,6 @@ pub fn bad_vector(z: Sizes, vector: &[u64]) -> bool
         i += 1;
     }
     false
-}
-
-// The first n entries are set to zero.
-pub fn clear(scratch: &mut [u64], n: usize)
-    requires { ⌜ n ≤ length (now scratch) ⌝ }
-    ensures { λ _. ⌜ now (scratch .exit) ≡ replicate n 0 ++ drop n (now (scratch .entry)) ⌝ }
-{
-    let mut i = 0;
-    while i < n {
-        scratch[i] = 0;
-        i += 1;
-    }
 }
 
 // The sum, difference or product modulo 2^64 of the values of two steps, by the operation byte 3, 4 or 5: the word of the exact result.

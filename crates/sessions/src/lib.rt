@@ -1,6 +1,5 @@
 // Sessions: opening one on two files, and continuing it under a budget.
 use engine::first_difference;
-use evaluate::clear;
 use evaluate::output_at;
 use file::check_as;
 use file::fields::read_sizes;
@@ -9,6 +8,7 @@ use grid::grid_of;
 use sizes::Refusal;
 use sizes::Sizes;
 use sizes::refused_by;
+use slices::clear;
 use vectors::vector_at;
 ghost use mathlib.Core.Path.{_≡_};
 ghost use Prim.Native.Nat.{_≤_, _<_, min, max};

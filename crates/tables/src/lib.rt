@@ -1,5 +1,4 @@
 // Difference tables: of a file, of given outputs, and summed back. Document 01's number G is the size of the grid.
-use evaluate::clear;
 use evaluate::output_at;
 use file::check;
 use file::fields::read_sizes;
@@ -11,6 +10,8 @@ use sizes::bad_inputs;
 use sizes::bad_output;
 use sizes::bad_widths;
 use sizes::refused_by;
+use slices::clear;
+use slices::copy_front;
 use transform::difference_in_place;
 use transform::sum_in_place;
 use vectors::next_vector;
@@ -88,18 +89,6 @@ fn cells_refusal(z: Sizes, cells: &[u64], len: usize) -> Refusal
         return refused_by(13);
     }
     refused_by(0)
-}
-
-// The first entries of one slice are copied over those of another.
-fn copy_front(from: &[u64], to: &mut [u64], count: usize)
-    requires { ⌜ (count ≤ length (now from)) × (count ≤ length (now to)) ⌝ }
-    ensures { λ _. ⌜ now (to .exit) ≡ take count (now (from .entry)) ++ drop count (now (to .entry)) ⌝ }
-{
-    let mut i = 0;
-    while i < count {
-        to[i] = from[i];
-        i += 1;
-    }
 }
 
 // The difference table of given outputs. Of the table slice the first G entries become the table: cell k holds the k-fold forward difference

@@ -18,8 +18,8 @@ use Rattle.sizes.specs.Sizes.{maxInputs}
 use Rattle.vectors.specs.Vectors.{held, Placed}
 use Rattle.vectors.proofs.Held.{held-entry}
 use Rattle.tables.specs.Filling.{Filling}
-use Rattle.tables.proofs.Copied as Written
-use Rattle.tables.proofs.Copied.{Copied}
+use Rattle.slices.proofs.Copied as Written
+use Rattle.slices.proofs.Copied.{Copied}
 use Rattle.tables.proofs.fill_outputs.Statement.{statement}
 use Rattle.tables.proofs.fill_outputs.Tie as tie
 

@@ -1,17 +1,17 @@
--- `tables::copy_front` meets its contract. The loop's invariant: the first i entries are copied, the others as at entry.
+-- `slices::copy_front` meets its contract. The loop's invariant: the first i entries are copied, the others as at entry.
 -- Assumes nothing.
 use mathlib.Core.Path.{refl}
 use Prim.Native.Nat.{_-_}
 use borrow.Author.Needs.{needs}
-use Rattle.tables.proofs.Copied.{Copied, none, more, whole}
-use Rattle.tables.proofs.copy_front.Statement.{statement}
-use Rattle.tables.proofs.copy_front.Tie as tie
+use Rattle.slices.proofs.Copied.{Copied, none, more, whole}
+use Rattle.slices.proofs.copy_front.Statement.{statement}
+use Rattle.slices.proofs.copy_front.Tie as tie
 
 abbrev Inv-loop : tie.InvT-loop
-Inv-loop from to₀ count i₀ to i = Copied from to₀ count to i
+Inv-loop from to₀ n i₀ to i = Copied from to₀ n to i
 
 abbrev μ-loop : tie.MeasureT-loop
-μ-loop from to₀ count i₀ to i = count - i
+μ-loop from to₀ n i₀ to i = n - i
 
 loop-holds : tie.Need-loop-holds Inv-loop μ-loop
 loop-holds c = none _ _ _

@@ -9,7 +9,7 @@ use native.Mathlib.Decide.{decLt}
 use native.Mathlib.Omega.{arith}
 use lib.ListN.{length, getD, take, replicate, length-map, length-take, length-drop}
 use Rattle.file.specs.Accepted.{Accepted}
-use Rattle.file.specs.File.{sizesOf}
+use Rattle.fields.specs.File.{sizesOf}
 use Rattle.grid.specs.Grid.{widthsOf, axesOf}
 use Rattle.grid.proofs.Axes.{axes-most, size-least}
 use Rattle.lanes.specs.Lanes.{OnGrid, LanesOnGrid}

@@ -7,8 +7,8 @@ use mathlib.Core.Bool.{Bool}
 use mathlib.Core.List.{List}
 use Prim.Native.Nat.{ℕ, max}
 use Rattle.file.specs.Accepted.{Accepted}
-use Rattle.file.specs.File.{sizesOf, stepCount}
-use Rattle.file.specs.Steps.{stepsOf}
+use Rattle.fields.specs.File.{sizesOf, stepCount}
+use Rattle.fields.specs.Steps.{stepsOf}
 use Rattle.grid.specs.Grid.{axesOf}
 use Rattle.theorem.specs.Comparison.{differsAt}
 

@@ -8,7 +8,7 @@ use mathlib.Core.Path.{_≡_}
 use mathlib.Core.List.{List}
 use Prim.Native.Nat.{ℕ, _*_, _≤_}
 use lib.ListN.{length, take}
-use Rattle.file.specs.File.{sizesOf, stepCount}
+use Rattle.fields.specs.File.{sizesOf, stepCount}
 use Rattle.grid.specs.Grid.{axesOf}
 use Rattle.lanes.specs.Lanes.{Width}
 use Rattle.batches.specs.Comparison.{Comparable}

@@ -22,7 +22,7 @@ use Rattle.batches.specs.Prepared.{Prepared}
 use Rattle.batches.proofs.Tests.{shown₁, shown₂, lane-test}
 use Rattle.evaluate.specs.Evaluate.{outputOf}
 use Rattle.file.specs.Accepted.{Accepted}
-use Rattle.file.specs.File.{sizesOf, stepCount}
+use Rattle.fields.specs.File.{sizesOf, stepCount}
 use Rattle.grid.specs.Grid.{axesOf}
 use Rattle.lanes.specs.Lanes.{Reads, HeldTo, Shown, Beside, Rest, LanesOnGrid}
 use Rattle.lanes.proofs.Values.{lane-output}

@@ -23,7 +23,7 @@ use Rattle.exports.specs.Words.{operationWords, boundWords, gridWords, evaluate
 use Rattle.exports.proofs.Answered.{grid-refused, grid-accepted, bound-refused, bound-accepted}
 use Rattle.file.specs.Accepted.{Accepted}
 use Rattle.file.specs.Check.{fileNumber, refusalOf}
-use Rattle.file.specs.File.{sizesOf, stepCount}
+use Rattle.fields.specs.File.{sizesOf, stepCount}
 use Rattle.file.proofs.Accepted.{accepted as file-accepted}
 use Rattle.file.proofs.Number.{refusal-number}
 use Rattle.grid.specs.Grid.{axesOf, gridSize, gridOf}

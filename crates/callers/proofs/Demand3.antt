@@ -13,7 +13,7 @@ use Rattle.bound.specs.Axes.{ranges}
 use Rattle.engine.specs.Engine.{largerCount}
 use Rattle.exports.specs.SessionCalls.{openFits, OpenCall}
 use Rattle.file.specs.Accepted.{Accepted}
-use Rattle.file.specs.File.{sizesOf}
+use Rattle.fields.specs.File.{sizesOf}
 use Rattle.grid.specs.Grid.{widthsOf}
 use Rattle.layouts.specs.AnswerWords.{kindWord, answerFrom}
 use Rattle.layouts.specs.Lengths.{word, atNumber, atPosition, atMark, atVector, atOutput₁, atOutput₂}

@@ -10,7 +10,7 @@ use lib.ListN.{length, take, drop, length-take, length-drop, take-append-drop}
 use lib.Seq.{take-append-le}
 use Rattle.exports.specs.ReportCalls.{reportFits, reportText, ReportCall}
 use Rattle.exports.specs.SessionCalls.{openFits, continueFits}
-use Rattle.file.specs.File.{sizesOf}
+use Rattle.fields.specs.File.{sizesOf}
 use Rattle.layouts.specs.AnswerWords.{kindFrom, answerWords, answerFits, answerFrom}
 use Rattle.layouts.specs.Lengths.{word, atNumber}
 use Rattle.layouts.specs.SessionWords.{sessionFrom}

@@ -19,7 +19,7 @@ use Rattle.exports.specs.Layout.{has}
 use Rattle.exports.specs.Words.{boundWords, gridWords, noGrid, gridAsWords}
 use Rattle.exports.proofs.Answered.{grid-refused, grid-accepted}
 use Rattle.file.specs.Check.{fileNumber, refusalOf}
-use Rattle.file.specs.File.{sizesOf, stepCount}
+use Rattle.fields.specs.File.{sizesOf, stepCount}
 use Rattle.grid.specs.Grid.{gridSize, gridOf, tooLarge}
 use Rattle.layouts.specs.AnswerWords.{refusalWords, kindWord, answerWords}
 use Rattle.layouts.specs.Lengths.{word}

@@ -9,7 +9,7 @@ use lib.ListN.{getD}
 use borrow.Author.Tests.{lt-ltb, le-leb, eq-eqb}
 use Rattle.file.specs.Accepted.{Accepted}
 use Rattle.file.specs.Check.{maxSteps, faultyAt, faultyStep, operandsRule, argumentRule, headFault, fileNumber}
-use Rattle.file.specs.File.{sizesOf, stepCount, operation, argument, leftOperand, rightOperand, upperHalf}
+use Rattle.fields.specs.File.{sizesOf, stepCount, operation, argument, leftOperand, rightOperand, upperHalf}
 use Rattle.file.proofs.Cases.{head-0, step-0, faultless, rule-input, rule-constant, rule-operands}
 use Rattle.file.proofs.Number.{refused-none, refusal-number}
 use Rattle.search.proofs.Search.{first-absent, every-of}

@@ -45,7 +45,7 @@ use Rattle.exports.specs.SessionCalls.{ContinueCall}
 use Rattle.exports.specs.TableCalls.{TableCall, DifferenceCall, SumCall}
 use Rattle.file.specs.Accepted.{Accepted}
 use Rattle.file.specs.Check.{fileNumber}
-use Rattle.file.specs.File.{sizesOf, stepCount}
+use Rattle.fields.specs.File.{sizesOf, stepCount}
 use Rattle.grid.specs.Grid.{axesOf, gridSize}
 use Rattle.layouts.specs.Lengths.{word}
 use Rattle.layouts.specs.SizeWords.{sizeWords, sizesFrom}

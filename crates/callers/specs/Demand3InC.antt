@@ -26,8 +26,8 @@ use Rattle.engine.specs.Engine.{largerCount}
 use Rattle.evaluate.specs.Evaluate.{outputOf}
 use Rattle.exports.specs.Layout.{has, returned}
 use Rattle.exports.specs.SessionCalls.{OpenCall}
-use Rattle.file.specs.File.{sizesOf}
-use Rattle.file.specs.Steps.{stepsOf}
+use Rattle.fields.specs.File.{sizesOf}
+use Rattle.fields.specs.Steps.{stepsOf}
 use Rattle.grid.specs.Grid.{widthsOf, gridSize}
 use Rattle.layouts.specs.Lengths.{word, atNumber, atPosition, atMark, atVector, atOutput₁, atOutput₂, answerLength}
 use Rattle.sessions.specs.Demand3.{stop, StopInRange, stopVector, FullWidth}

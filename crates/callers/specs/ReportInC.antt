@@ -21,7 +21,7 @@ use Prim.Native.Nat.{ℕ, _<_}
 use lib.ListN.{length, take, drop}
 use Rattle.exports.specs.ReportCalls.{ReportCall}
 use Rattle.exports.specs.SessionCalls.{OpenCall, ContinueCall}
-use Rattle.file.specs.File.{sizesOf}
+use Rattle.fields.specs.File.{sizesOf}
 use Rattle.layouts.specs.Lengths.{word, atNumber}
 use Rattle.report.specs.Claims.{wordsOf, differWords, ThreeLines, Refuses}
 use Rattle.report.specs.Report.{printed}

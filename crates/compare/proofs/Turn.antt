@@ -9,7 +9,7 @@ use Prim.Native.Nat.{ℕ, _+_, _<_, _≤_}
 use native.Mathlib.Decide.{decLt}
 use native.Mathlib.Omega.{arith}
 use Rattle.engine.specs.Engine.{largerCount}
-use Rattle.file.specs.File.{sizesOf}
+use Rattle.fields.specs.File.{sizesOf}
 use Rattle.grid.specs.Grid.{gridSize}
 use Rattle.search.proofs.Search.{true-or-false}
 use Rattle.sessions.specs.Calls.{Call, answerTo, IsVerdict, acceptedBudget}

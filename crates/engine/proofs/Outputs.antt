@@ -9,7 +9,7 @@ use lib.Dec.{eqb}
 use Rattle.batches.proofs.Tests.{output-test}
 use Rattle.evaluate.specs.Evaluate.{outputOf}
 use Rattle.evaluate.proofs.Words.{output-entries}
-use Rattle.file.specs.File.{sizesOf}
+use Rattle.fields.specs.File.{sizesOf}
 use Rattle.grid.specs.Grid.{axesOf}
 use Rattle.places.specs.Places.{vectorAt}
 use Rattle.vectors.specs.Vectors.{held}

@@ -13,7 +13,7 @@ use lib.Seq.{take-at}
 use Rattle.batches.specs.Prepared.{maxAxis, Prepared}
 use Rattle.batches.proofs.OnGrid.{length-axes}
 use Rattle.file.specs.Accepted.{Accepted}
-use Rattle.file.specs.File.{sizesOf, stepCount}
+use Rattle.fields.specs.File.{sizesOf, stepCount}
 use Rattle.grid.specs.Grid.{axesOf, gridOf, gridSize, tooLarge}
 use Rattle.grid.specs.declared.Grid.{Grid}
 use Rattle.grid.proofs.Axes.{never-large}

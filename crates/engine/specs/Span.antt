@@ -5,7 +5,7 @@ use mathlib.Core.Path.{_≡_}
 use mathlib.Core.List.{List}
 use Prim.Native.Nat.{ℕ, _≤_, _<_, max}
 use lib.ListN.{length, take}
-use Rattle.file.specs.File.{sizesOf, stepCount}
+use Rattle.fields.specs.File.{sizesOf, stepCount}
 use Rattle.grid.specs.Grid.{axesOf}
 use Rattle.places.specs.Places.{size}
 use Rattle.engine.specs.Engine.{Comparable}

@@ -1,7 +1,7 @@
 // The engine: two files compared over the places of the grid.
 use evaluate::output_at;
-use file::fields::read_sizes;
-use file::fields::step_count;
+use fields::read_sizes;
+use fields::step_count;
 use grid::grid_of;
 use spans::by_blocks;
 use vectors::next_vector;
@@ -13,7 +13,7 @@ ghost use lib.Dec.{eqb};
 ghost use lib.ListN.{length, drop};
 ghost use Rattle.evaluate.specs.Evaluate.{outputOf};
 ghost use Rattle.evaluate.specs.Run.{Ready};
-ghost use Rattle.file.specs.File.{sizesOf};
+ghost use Rattle.fields.specs.File.{sizesOf};
 ghost use Rattle.grid.specs.Grid.{gridSize};
 ghost use Rattle.lanes.specs.Lanes.{Width, OnGrid};
 ghost use Rattle.search.specs.Search.{first};

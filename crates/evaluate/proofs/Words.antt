@@ -1,64 +1,76 @@
--- The value of a step modulo 2^64, by its operation: an input and a constant fit a word, and the operands are words of exact values.
-use mathlib.Core.Path.{_≡_, sym, _∙_, ap}
+-- The value of a step modulo 2^64, by what the step is: an input and a constant fit a word, and the operands are words of exact values.
+use mathlib.Core.Path.{_≡_, sym, _∙_, ap, ap₂, subst}
 use mathlib.Core.List.{List, _++_, map}
-use Prim.Native.Nat.{ℕ, _-_, _%_, _^_, _<_, _≤_}
+use Prim.Native.Nat.{ℕ, _+_, _*_, _-_, _%_, _^_, _<_}
 use native.Mathlib.Nat.{mod-eq-of-lt}
-use native.Mathlib.Decide.{ℕ-discrete}
 use native.Mathlib.Omega.{arith}
 use lib.IntN.{ℤ, pos}
 use lib.ListN.{length, getD, take, length-map, List·getD-append, List·getD-map}
 use lib.Seq.{getD-take}
-use borrow.Author.Tests.{eq-eqb, ne-eqb}
 use Rattle.file.specs.Accepted.{Accepted}
-use Rattle.file.specs.File.{sizesOf, stepCount, operation, argument, leftOperand, rightOperand}
-use Rattle.file.specs.Steps.{stepAt, stepsOf}
-use Rattle.file.proofs.Steps.{steps-length, step-input, step-constant, step-add, step-subtract, step-multiply}
+use Rattle.fields.specs.File.{sizesOf, stepCount}
+use Rattle.fields.specs.Steps.{stepAt, stepsOf}
+use Rattle.fields.proofs.Steps.{steps-length}
 use Rattle.integers.specs.Modulo.{remainder}
 use Rattle.integers.proofs.Remainder.{remainder-pos}
 use Rattle.steps.specs.Steps.{stepValue, values, exact, output}
+use Rattle.steps.specs.declared.Step.{Step}
+use Rattle.steps.specs.declared.Step.the-variants.{Input, Constant, Add, Subtract, Multiply}
 use Rattle.steps.proofs.Values.{length-values, values-entries}
 use Rattle.words.specs.Words.{word}
-use Rattle.words.proofs.Congruence.{word-cut}
+use Rattle.words.proofs.Congruence.{word-cut, word-add, word-sub, word-mul}
 use Rattle.evaluate.specs.Evaluate.{outputOf}
-use Rattle.evaluate.specs.Run.{combined}
 
 -- a natural number that fits is its own word
 word-pos : (a : ℕ) → a < 2 ^ 64 → a ≡ word (pos a)
 word-pos a h = sym (remainder-pos a (2 ^ 64) ∙ mod-eq-of-lt h)
 
 -- an entry of the scratch slice is the word of the value that it holds
-pub operand-word :
+operand-word :
     (scratch : List ℕ) (vs : List ℤ) (k l : ℕ) → take k scratch ≡ map word vs → l < k → getD scratch l 0 ≡ word (getD vs l (pos 0))
 unfolding remainder
 operand-word scratch vs k l e h =
     sym (getD-take k scratch l 0 h) ∙ ap (λ xs. getD xs l 0) e ∙ List·getD-map word vs l (pos 0)
 
-module _ (s x : List ℕ) (vs : List ℤ) (k r : ℕ) where
+-- the word r of step k, by what the step is, where the scratch slice holds the words of the values vs of the steps before
+module _ (s x scratch : List ℕ) (vs : List ℤ) (k r : ℕ) (held : take k scratch ≡ map word vs) where
   abbrev Right : Type 0
   Right = r ≡ word (stepValue x vs (stepAt s k))
 
-  pub input-word : operation s k ≡ 1 → r ≡ getD x (argument s k) 0 → r < 2 ^ 64 → Right
-  unfolding stepValue
-  input-word o e h = rw (step-input s k o) (rw (← e) (word-pos r h))
+  right : (t : Step) → t ≡ stepAt s k → r ≡ word (stepValue x vs t) → Right
+  right t e h = subst (λ u. r ≡ word (stepValue x vs u)) e h
 
-  pub constant-word : operation s k ≡ 2 → r ≡ argument s k → r < 2 ^ 64 → Right
+  pub input-word : (i : ℕ) → Input i ≡ stepAt s k → r ≡ getD x i 0 → r < 2 ^ 64 → Right
   unfolding stepValue
-  constant-word o e h = rw (step-constant s k o) (rw (← e) (word-pos r h))
+  input-word i e q h = right (Input i) e (rw (← q) (word-pos r h))
 
-  -- the other operations, by their exact result
-  pub combined-word :
-      3 ≤ operation s k → operation s k ≤ 5 →
-      r ≡ word (combined (operation s k) (getD vs (leftOperand (argument s k)) (pos 0)) (getD vs (rightOperand (argument s k)) (pos 0))) →
-      Right
-  unfolding stepValue combined
-  combined-word low high e =
-      elim (ℕ-discrete (operation s k) 3) [
-        | yes o ↦ rw (step-add s k o) (e ∙ rw (eq-eqb (operation s k) 3 o))
-        | no n ↦ elim (ℕ-discrete (operation s k) 4) [
-          | yes o ↦ rw (step-subtract s k o) (e ∙ rw (ne-eqb (operation s k) 3 n, eq-eqb (operation s k) 4 o))
-          | no m ↦ rw (step-multiply s k (omega arith)) (e ∙ rw (ne-eqb (operation s k) 3 n, ne-eqb (operation s k) 4 m))
-        ]
-      ]
+  pub constant-word : Constant r ≡ stepAt s k → r < 2 ^ 64 → Right
+  unfolding stepValue
+  constant-word e h = right (Constant r) e (word-pos r h)
+
+  module _ (i j : ℕ) (left : i < k) (before : j < k) where
+    pub sum-word : Add i j ≡ stepAt s k → r ≡ (getD scratch i 0 + getD scratch j 0) % 2 ^ 64 → Right
+    unfolding stepValue
+    sum-word e q =
+        right (Add i j) e
+        (q
+        ∙ ap₂ (λ u v. (u + v) % 2 ^ 64) (operand-word scratch vs k i held left) (operand-word scratch vs k j held before)
+        ∙ word-add (getD vs i (pos 0)) (getD vs j (pos 0)))
+
+    pub difference-word : Subtract i j ≡ stepAt s k → r < 2 ^ 64 → (r + getD scratch j 0) % 2 ^ 64 ≡ getD scratch i 0 → Right
+    unfolding stepValue
+    difference-word e h q =
+        right (Subtract i j) e
+        (word-sub r (getD vs i (pos 0)) (getD vs j (pos 0)) h
+        (ap (λ v. (r + v) % 2 ^ 64) (sym (operand-word scratch vs k j held before)) ∙ q ∙ operand-word scratch vs k i held left))
+
+    pub product-word : Multiply i j ≡ stepAt s k → r ≡ getD scratch i 0 * getD scratch j 0 % 2 ^ 64 → Right
+    unfolding stepValue
+    product-word e q =
+        right (Multiply i j) e
+        (q
+        ∙ ap₂ (λ u v. u * v % 2 ^ 64) (operand-word scratch vs k i held left) (operand-word scratch vs k j held before)
+        ∙ word-mul (getD vs i (pos 0)) (getD vs j (pos 0)))
 
 -- the last value cut to m bits is the output
 pub output-word :

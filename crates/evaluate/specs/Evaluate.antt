@@ -6,18 +6,19 @@
 --   evaluatedAt s x len   the whole answer: the refusal and the output, which is 0 in a refusal
 --   scratchAfter          the scratch slice afterwards: the first N entries zero where the call is accepted, all untouched where it is refused
 use mathlib.Core.Bool.{Bool, not, cond, _&&_}
-use mathlib.Core.List.{List, _++_}
+use mathlib.Core.List.{List}
 use Prim.Native.Nat.{ℕ}
 use lib.Dec.{ltb, eqb}
-use lib.ListN.{length, getD, drop, replicate}
+use lib.ListN.{length, getD}
 use Rattle.bound.specs.Axes.{range}
 use Rattle.file.specs.Check.{fileNumber, refusalOf}
-use Rattle.file.specs.File.{sizesOf, stepCount}
-use Rattle.file.specs.Steps.{stepsOf}
+use Rattle.fields.specs.File.{sizesOf, stepCount}
+use Rattle.fields.specs.Steps.{stepsOf}
 use Rattle.search.specs.Search.{every}
 use Rattle.sizes.specs.Sizes.{refusedBy, accepted}
 use Rattle.sizes.specs.declared.Refusal.{Refusal}
 use Rattle.sizes.specs.declared.Sizes.{Sizes}
+use Rattle.slices.specs.Slices.{cleared}
 use Rattle.steps.specs.Steps.{output}
 use Rattle.evaluate.specs.declared.Evaluated.{Evaluated}
 
@@ -50,4 +51,4 @@ evaluatedAt s x len =
 
 unfoldable pub scratchAfter : List ℕ → List ℕ → List ℕ → List ℕ
 scratchAfter s x scratch =
-    cond (accepts s x (length scratch)) (replicate (stepCount s) 0 ++ drop (stepCount s) scratch) scratch
+    cond (accepts s x (length scratch)) (cleared (stepCount s) scratch) scratch

@@ -1,27 +1,22 @@
 // Evaluating a datapath file at a vector.
+use fields::output_length;
+use fields::read_sizes;
+use fields::step_at;
+use fields::step_count;
 use file::check;
-use file::fields::argument;
-use file::fields::left_operand;
-use file::fields::operation;
-use file::fields::read_sizes;
-use file::fields::right_operand;
-use file::fields::step_count;
 use sizes::Refusal;
 use sizes::Sizes;
 use sizes::refused_by;
 use slices::clear;
+use steps::Step;
 use words::cut;
 use words::wrapping_mul;
 ghost use mathlib.Core.Path.{_≡_};
-ghost use mathlib.Core.List.{_++_, map};
 ghost use Prim.Native.Nat.{_≤_, _<_};
-ghost use lib.IntN.{ℤ};
-ghost use lib.ListN.{length, drop};
-ghost use Rattle.file.specs.Steps.{stepAt, stepsOf};
-ghost use Rattle.steps.specs.Steps.{stepValue, values};
-ghost use Rattle.words.specs.Words.{word};
-ghost use Rattle.evaluate.specs.Evaluate.{outputOf, inRange, badVector, refusalAt, evaluatedAt, scratchAfter};
-ghost use Rattle.evaluate.specs.Run.{combined, Ready, Running};
+ghost use lib.ListN.{length};
+ghost use Rattle.sizes.specs.Sizes.{maxInputs};
+ghost use Rattle.evaluate.specs.Evaluate.{inRange, badVector, refusalAt};
+ghost use Rattle.evaluate.specs.Run.{wordAt, ran, Ready, Running, OutputAt, Evaluates};
 
 // What evaluating answers: the refusal, and the output, which is 0 in a refusal.
 pub struct Evaluated {
@@ -31,7 +26,7 @@ pub struct Evaluated {
 
 // Whether input i's value is in its range, below 2^n.
 fn in_range(z: Sizes, vector: &[u64], i: usize) -> bool
-    requires { ⌜ (i < 8) × (i < length (now vector)) ⌝ }
+    requires { ⌜ (i < maxInputs) × (i < length (now vector)) ⌝ }
     ensures { λ r. ⌜ r ≡ inRange z (now (vector .entry)) i ⌝ }
 {
     let widths = z.widths;
@@ -42,7 +37,7 @@ fn in_range(z: Sizes, vector: &[u64], i: usize) -> bool
 
 // Whether a vector breaks condition 14: it is not exactly d long, or a value is not in its input's range.
 pub fn bad_vector(z: Sizes, vector: &[u64]) -> bool
-    requires { ⌜ z .d ≤ 8 ⌝ }
+    requires { ⌜ z .d ≤ maxInputs ⌝ }
     ensures { λ r. ⌜ r ≡ badVector z (now (vector .entry)) ⌝ }
 {
     let d = z.d as usize;
@@ -59,42 +54,26 @@ pub fn bad_vector(z: Sizes, vector: &[u64]) -> bool
     false
 }
 
-// The sum, difference or product modulo 2^64 of the values of two steps, by the operation byte 3, 4 or 5: the word of the exact result.
-fn combine(op: u8, left: u64, right: u64) -> u64
-    ensures { λ r. ⌜ ((a b : ℤ) → left ≡ word a → right ≡ word b → r ≡ word (combined op a b)) ⌝ }
-{
-    if op == 3 {
-        return std::num::wrapping_add_u64(left, right);
-    }
-    if op == 4 {
-        return std::num::wrapping_sub_u64(left, right);
-    }
-    wrapping_mul(left, right)
-}
-
 // The value modulo 2^64 of step k of an accepted file, where the first k scratch entries hold those of the steps before it.
 fn step_word(file: &[u8], n: usize, vector: &[u64], scratch: &[u64], k: usize) -> u64
     requires { ⌜ Running (now file) n (now vector) (now scratch) k ⌝ }
     requires { ⌜ k < n ⌝ }
-    ensures { λ r. ⌜ r ≡ word (stepValue (now (vector .entry)) (values (stepsOf (now (file .entry))) (now (vector .entry)) k) (stepAt (now (file .entry)) k)) ⌝ }
+    ensures { λ r. ⌜ r ≡ wordAt (now (file .entry)) (now (vector .entry)) k ⌝ }
 {
-    let op = operation(file, k);
-    let a = argument(file, n, k);
-    if op == 1 {
-        return vector[a as usize];
+    let step = step_at(file, n, k);
+    match step {
+        Step::Input(i) => vector[i],
+        Step::Constant(c) => c,
+        Step::Add(l, r) => std::num::wrapping_add_u64(scratch[l], scratch[r]),
+        Step::Subtract(l, r) => std::num::wrapping_sub_u64(scratch[l], scratch[r]),
+        Step::Multiply(l, r) => wrapping_mul(scratch[l], scratch[r]),
     }
-    if op == 2 {
-        return a;
-    }
-    let left = scratch[left_operand(a)];
-    let right = scratch[right_operand(a)];
-    combine(op, left, right)
 }
 
 // The values modulo 2^64 of all steps of an accepted file go into the first n scratch entries.
 fn run(file: &[u8], n: usize, vector: &[u64], scratch: &mut [u64])
     requires { ⌜ Ready (now file) n (now vector) (now scratch) ⌝ }
-    ensures { λ _. ⌜ now (scratch .exit) ≡ map word (values (stepsOf (now (file .entry))) (now (vector .entry)) n) ++ drop n (now (scratch .entry)) ⌝ }
+    ensures { λ _. ⌜ now (scratch .exit) ≡ ran (now (file .entry)) n (now (vector .entry)) (now (scratch .entry)) ⌝ }
 {
     let mut k = 0;
     while k < n {
@@ -107,10 +86,12 @@ fn run(file: &[u8], n: usize, vector: &[u64], scratch: &mut [u64])
 // The output of an accepted file at a vector of at least d values. The first n scratch entries are overwritten.
 pub fn output_at(file: &[u8], n: usize, vector: &[u64], scratch: &mut [u64]) -> u64
     requires { ⌜ Ready (now file) n (now vector) (now scratch) ⌝ }
-    ensures { λ r. ⌜ (r ≡ outputOf (now (file .entry)) (now (vector .entry))) × (drop n (now (scratch .exit)) ≡ drop n (now (scratch .entry))) ⌝ }
+    ensures { λ r. ⌜
+        OutputAt (now (file .entry)) n (now (vector .entry)) (now (scratch .entry)) r (now (scratch .exit))
+        ⌝ }
 {
     run(file, n, vector, scratch);
-    let m = file[0] as u64;
+    let m = output_length(file);
     cut(scratch[n - 1], m)
 }
 
@@ -135,7 +116,9 @@ fn refusal_at(file: &[u8], vector: &[u64], room: usize) -> Refusal
 // The output of the file at the vector: the exact value of its last step modulo 2^m. Refused under document 01's conditions 1 to 8, 12
 // and 14, in this order. Afterwards the first N scratch entries are zero and the others untouched; a refused call touches none.
 pub fn evaluate(file: &[u8], vector: &[u64], scratch: &mut [u64]) -> Evaluated
-    ensures { λ r. ⌜ (r ≡ evaluatedAt (now (file .entry)) (now (vector .entry)) (length (now (scratch .entry)))) × (now (scratch .exit) ≡ scratchAfter (now (file .entry)) (now (vector .entry)) (now (scratch .entry))) ⌝ }
+    ensures { λ r. ⌜
+        Evaluates (now (file .entry)) (now (vector .entry)) (now (scratch .entry)) r (now (scratch .exit))
+        ⌝ }
 {
     let refusal = refusal_at(file, vector, scratch.len());
     let number = refusal.number;

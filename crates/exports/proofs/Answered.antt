@@ -10,7 +10,7 @@ use lib.ListN.{length, length-take, length-drop}
 use borrow.Author.Tests.{eq-eqb, ne-eqb}
 use Rattle.bound.specs.Bound.{bound}
 use Rattle.file.specs.Check.{fileNumber, refusalOf, stretchOf}
-use Rattle.file.specs.File.{headLength, sizesOf, stepCount, operationsOf}
+use Rattle.fields.specs.File.{headLength, sizesOf, stepCount, operationsOf}
 use Rattle.file.proofs.Accepted.{accepted}
 use Rattle.file.proofs.Number.{stretch-accepted, stretch-refused}
 use Rattle.grid.specs.Grid.{gridOf}

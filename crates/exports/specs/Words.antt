@@ -12,7 +12,7 @@ use lib.ListN.{replicate}
 use Rattle.bound.specs.Bound.{bound}
 use Rattle.evaluate.specs.declared.Evaluated.{Evaluated}
 use Rattle.file.specs.Check.{fileNumber, refusalOf}
-use Rattle.file.specs.File.{headLength, sizesOf, stepCount}
+use Rattle.fields.specs.File.{headLength, sizesOf, stepCount}
 use Rattle.grid.specs.Grid.{gridOf, tooLarge}
 use Rattle.grid.specs.declared.Grid.{Grid}
 use Rattle.layouts.specs.AnswerWords.{refusalWords}

@@ -2,8 +2,8 @@
 // it, and 0, with nothing touched, where it is not.
 use bound::bound;
 use evaluate::evaluate;
+use fields::read_sizes;
 use file::check;
-use file::fields::read_sizes;
 use file::operations;
 use grid::grid_of;
 use layouts::MAX_INPUTS;

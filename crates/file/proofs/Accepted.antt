@@ -2,16 +2,20 @@
 -- faulty, so that its operation byte and its argument pass their tests. Assumes nothing.
 use mathlib.Core.Bool.{true, false, _&&_, and-eq-true-iff}
 use mathlib.Core.List.{List}
-use mathlib.Core.Path.{_≡_, sym, _∙_}
+use mathlib.Core.Path.{_≡_, sym, _∙_, subst}
 use Prim.Native.Nat.{ℕ, _≤_, _<_}
+use native.Mathlib.Decide.{ℕ-discrete}
 use native.Mathlib.Omega.{arith}
 use lib.Dec.{ltb, eqb}
 use borrow.Author.Tests.{ltb-true, eqb-true, not-false}
 use Rattle.search.proofs.Search.{first-before}
 use Rattle.sizes.proofs.Ranges.{within-range, output-range, inputs-range, width-used, width-unused}
-use Rattle.file.specs.Accepted.{Accepted}
+use Rattle.steps.specs.declared.Step.{Step}
+use Rattle.fields.specs.Steps.{stepAt}
+use Rattle.fields.proofs.Steps.{step-input, step-constant, step-add, step-subtract, step-otherwise}
+use Rattle.file.specs.Accepted.{Accepted, Counted, StepRule}
 use Rattle.file.specs.Check.{maxSteps, badOperation, badArgument, operandsRule, argumentRule, stepFault, faultyAt, faultyStep, fileNumber}
-use Rattle.file.specs.File.{sizesOf, stepCount, operation, argument, leftOperand, rightOperand, upperHalf}
+use Rattle.fields.specs.File.{sizesOf, stepCount, operation, argument, leftOperand, rightOperand, upperHalf}
 use Rattle.file.proofs.Cases.{rule-input, rule-constant, rule-operands}
 use Rattle.file.proofs.Number.{cond-zero, head-passed, number-zero}
 
@@ -74,3 +78,38 @@ module _ (s : List ℕ) (e : fileNumber s ≡ 0) where
         rightBefore = λ k l h. operands-kept k l h .1;
         upperZero = λ k l h. operands-kept k l h .2;
       }
+
+-- every step of an accepted file keeps its rule
+step-rule : (s : List ℕ) → Accepted s → (k : ℕ) → k < stepCount s → StepRule (sizesOf s) k (stepAt s k)
+step-rule s a k l =
+    elim (ℕ-discrete (operation s k) 1) [
+      | yes o ↦ subst (StepRule (sizesOf s) k) (sym (step-input s k o)) (a .inputArgument k l o)
+      | no n₁ ↦ elim (ℕ-discrete (operation s k) 2) [
+        | yes o ↦ subst (StepRule (sizesOf s) k) (sym (step-constant s k o)) (a .constantArgument k l o)
+        | no n₂ ↦
+            let h : 3 ≤ operation s k = omega (arith, a .operationLow k l, n₁, n₂) in
+            let before : (leftOperand (argument s k) < k) × (rightOperand (argument s k) < k) = (a .leftBefore k l h, a .rightBefore k l h) in
+            elim (ℕ-discrete (operation s k) 3) [
+              | yes o ↦ subst (StepRule (sizesOf s) k) (sym (step-add s k o)) before
+              | no n₃ ↦ elim (ℕ-discrete (operation s k) 4) [
+                | yes o ↦ subst (StepRule (sizesOf s) k) (sym (step-subtract s k o)) before
+                | no n₄ ↦ subst (StepRule (sizesOf s) k) (sym (step-otherwise s k n₁ n₂ n₃ n₄)) before
+              ]
+            ]
+      ]
+    ]
+
+-- step k is what is read of it, u, and keeps its rule
+pub record Is (s : List ℕ) (k : ℕ) (u : Step) : Type 0 where
+  pub inside : k < stepCount s
+  pub step : u ≡ stepAt s k
+  pub rule : StepRule (sizesOf s) k u
+
+pub is : (s : List ℕ) (n k : ℕ) → Counted s n → k < n → (t u : Step) → t ≡ stepAt s k → t ≡ u → Is s k u
+is s n k p h t u e q =
+    let inside : k < stepCount s = omega (arith, p .count) in
+    record {
+      inside = inside;
+      step = sym q ∙ e;
+      rule = subst (StepRule (sizesOf s) k) (sym e ∙ q) (step-rule s (p .sound) k inside);
+    }

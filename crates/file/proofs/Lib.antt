@@ -2,5 +2,3 @@ pub mod Accepted
 pub mod Cases
 pub mod Long
 pub mod Number
-pub mod Reading
-pub mod Steps

@@ -14,7 +14,7 @@ use Rattle.search.proofs.Search.{true-or-false}
 use Rattle.sizes.specs.Sizes.{maxInputs, within, badOutput, badInputs, badWidths}
 use Rattle.sizes.specs.declared.Sizes.{Sizes}
 use Rattle.words.specs.Bytes.{little}
-use Rattle.file.specs.File.{headLength, sizesOf, stepCount}
+use Rattle.fields.specs.File.{headLength, sizesOf, stepCount}
 use Rattle.file.specs.Check.{maxSteps, tooShort, badCount, badLength, headFault, fileNumber, refusalOf}
 use Rattle.file.specs.Long.{longestFile, CutShort, LongFile}
 use Rattle.file.proofs.Number.{head-passed, number-head, refused-head}

@@ -1,12 +1,17 @@
 -- What holds of an accepted file, as orders and equations of numbers: document 01's rules, with no test in them.
---   Accepted s   the rules of the head, the length, the word lengths and each step of s
+--   Accepted s       the rules of the head, the length, the word lengths and each step of s
+--   Counted s n      the file s is accepted and has n steps
+--   StepRule z k t   the rule of step k, t, of a file with sizes z: an input is one of the d, a constant fits m bits, operands are earlier steps
 use mathlib.Core.List.{List}
 use mathlib.Core.Path.{_≡_}
 use Prim.Native.Nat.{ℕ, _+_, _*_, _^_, _≤_, _<_}
 use lib.ListN.{length, getD}
 use Rattle.sizes.specs.Sizes.{maxInputs}
+use Rattle.sizes.specs.declared.Sizes.{Sizes}
+use Rattle.steps.specs.declared.Step.{Step}
+use Rattle.steps.specs.declared.Step.the-variants.{Input, Constant, Add, Subtract, Multiply}
 use Rattle.file.specs.Check.{maxSteps}
-use Rattle.file.specs.File.{headLength, sizesOf, stepCount, operation, argument, leftOperand, rightOperand, upperHalf}
+use Rattle.fields.specs.File.{headLength, sizesOf, stepCount, operation, argument, leftOperand, rightOperand, upperHalf}
 
 pub record Accepted (s : List ℕ) : Type 0 where
   pub long : headLength ≤ length s
@@ -27,3 +32,14 @@ pub record Accepted (s : List ℕ) : Type 0 where
   pub leftBefore : (k : ℕ) → k < stepCount s → 3 ≤ operation s k → leftOperand (argument s k) < k
   pub rightBefore : (k : ℕ) → k < stepCount s → 3 ≤ operation s k → rightOperand (argument s k) < k
   pub upperZero : (k : ℕ) → k < stepCount s → 3 ≤ operation s k → upperHalf (argument s k) ≡ 0
+
+pub record Counted (s : List ℕ) (n : ℕ) : Type 0 where
+  pub sound : Accepted s
+  pub count : n ≡ stepCount s
+
+abbrev pub StepRule : Sizes → ℕ → Step → Type 0
+StepRule z k (Input i) = i < z .d
+StepRule z k (Constant c) = c < 2 ^ z .m
+StepRule z k (Add l r) = (l < k) × (r < k)
+StepRule z k (Subtract l r) = (l < k) × (r < k)
+StepRule z k (Multiply l r) = (l < k) × (r < k)

@@ -5,7 +5,7 @@ use mathlib.Core.Path.{_≡_}
 use Prim.Native.Nat.{ℕ, _+_, _*_}
 use lib.ListN.{length}
 use Rattle.sizes.specs.declared.Sizes.{Sizes}
-use Rattle.file.specs.File.{headLength, sizesOf, stepCount}
+use Rattle.fields.specs.File.{headLength, sizesOf, stepCount}
 
 pub record Headed (s : List ℕ) (z : Sizes) (n : ℕ) : Type 0 where
   pub sizes : z ≡ sizesOf s

@@ -7,7 +7,7 @@ use mathlib.Core.List.{List, _++_}
 use Prim.Native.Nat.{ℕ, _+_, _*_, _<_}
 use lib.ListN.{length}
 use Rattle.file.specs.Check.{maxSteps, fileNumber, refusalOf}
-use Rattle.file.specs.File.{headLength}
+use Rattle.fields.specs.File.{headLength}
 
 abbrev pub longestFile : ℕ
 longestFile = headLength + 9 * maxSteps

@@ -5,7 +5,7 @@ use mathlib.Core.List.{List}
 use mathlib.Core.Path.{_≡_}
 use Prim.Native.Nat.{ℕ, _+_}
 use denote.Ref.{RefT, ptr, now}
-use Rattle.file.specs.File.{headLength}
+use Rattle.fields.specs.File.{headLength}
 use Rattle.file.specs.Check.{fileNumber, stretchOf}
 
 pub record Stretch (file r : RefT (List ℕ)) : Type 0 where

@@ -1,12 +1,12 @@
 // What a datapath file breaks: conditions 1 to 6 on the head and the length, then 7 and 8 on each step.
-use crate::fields::HEAD;
-use crate::fields::STEPS;
-use crate::fields::argument;
-use crate::fields::left_operand;
-use crate::fields::operation;
-use crate::fields::read_sizes;
-use crate::fields::right_operand;
-use crate::fields::step_count;
+use fields::HEAD;
+use fields::STEPS;
+use fields::argument;
+use fields::left_operand;
+use fields::operation;
+use fields::read_sizes;
+use fields::right_operand;
+use fields::step_count;
 use sizes::Sizes;
 use sizes::bad_inputs;
 use sizes::bad_output;

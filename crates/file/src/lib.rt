@@ -2,16 +2,15 @@
 use crate::faults::faulty_step;
 use crate::faults::head_fault;
 use crate::faults::step_fault;
-use crate::fields::HEAD;
-use crate::fields::read_sizes;
-use crate::fields::step_count;
+use fields::HEAD;
+use fields::read_sizes;
+use fields::step_count;
 use sizes::Refusal;
 ghost use mathlib.Core.Path.{_≡_};
 ghost use Rattle.file.specs.Check.{refusalOf};
 ghost use Rattle.file.specs.Stretch.{Stretch};
 
 mod faults;
-pub mod fields;
 
 // Whether a file is accepted, read as file `which`. Number 0: it is. Otherwise the first of conditions 1 to 8 that holds, in document
 // 01's order, with the file and, in 7 and 8, the step.

@@ -1,20 +1,17 @@
 -- The steps of a file run at w vectors at once: each of the w lanes of the rows has a vector of its own, row i the values of step i.
---   Width w                                     the rows have 16 or 8 lanes
---   valueAt s x i                               the exact value of step i of the file s at the vector x
+--   fewLanes                                    the lanes of a narrow row
+--   Width w                                     the rows have maxLanes or fewLanes lanes
 --   Reads w s inputs l x                        lane l of the input rows is the vector x: row i has input i
+--   StandsFor m x u                             the word x stands for the integer u modulo 2^m
 --   Held w s x rows l i                         lane l of row i is the value of step i at x, modulo 2^m
 --   HeldTo w s x rows l k                       so are the first k rows
 --   Shown w s x rows l k                        lane l of row k is the output at x, modulo 2^m
---   Beside j x y                                the vectors x and y are the same but for input j
---   Fixed s j i                                 step i does not depend on input j
---   Listed n list c                             the first c entries of the list are indices below n, in increasing order
---   Rest s j n list c                           each of the first n steps that is not among them does not depend on input j
---   Room w s n inputs rows                      the rows have 16 or 8 lanes, the file s is accepted and has n steps, and the slices have a row
---                                               for each input and each step
+--   Room w s n inputs rows                      the rows have such a width, the file s is accepted and has n steps, and the slices have a row for each
+--                                               input and each step
 --   OnGrid s x                                  the vector x is on the grid of the file s: each of its first d values is below its axis
 --   LanesOnGrid w s inputs                      in every lane the input rows hold such a vector
---   Combined w m op before after k a b          only row k was written: in a lane in which rows a and b stand for u and v modulo 2^m, row k
---                                               stands for the result of the operation op on u and v
+--   Product w m before after k a b              only row k was written: in a lane in which rows a and b stand for u and v modulo 2^m, row k
+--                                               stands for their product
 --   Stepped w s inputs before after k           only row k was written, with the value of step k in each lane in which the rows before it hold
 --                                               theirs
 --   AllRun w s n inputs after                   all n rows hold the values at the lanes' vectors
@@ -25,49 +22,36 @@ use mathlib.Core.Logic.{_⊎_}
 use mathlib.Core.Path.{_≡_}
 use mathlib.Core.List.{List}
 use Prim.Native.Nat.{ℕ, _*_, _%_, _^_, _≤_, _<_}
-use lib.IntN.{ℤ, pos}
+use lib.IntN.{ℤ, _*ℤ_}
 use lib.ListN.{length, getD}
+use Rattle.dependence.specs.Dependence.{valueAt, Beside, Rest}
 use Rattle.evaluate.specs.Evaluate.{outputOf}
-use Rattle.evaluate.specs.Run.{combined}
 use Rattle.file.specs.Accepted.{Accepted}
-use Rattle.file.specs.File.{sizesOf, stepCount}
-use Rattle.file.specs.Steps.{stepsOf}
+use Rattle.fields.specs.File.{sizesOf, stepCount}
 use Rattle.grid.specs.Grid.{axesOf}
 use Rattle.integers.specs.Modulo.{remainder}
-use Rattle.rows.specs.Rows.{lane}
-use Rattle.steps.specs.Steps.{values}
+use Rattle.rows.specs.Rows.{maxLanes, lane}
 
-unfoldable pub valueAt : List ℕ → List ℕ → ℕ → ℤ
-valueAt s x i = getD (values (stepsOf s) x (stepCount s)) i (pos 0)
+abbrev pub fewLanes : ℕ
+fewLanes = 8
 
 abbrev pub Width : ℕ → Type 0
-Width w = (w ≡ 16) ⊎ (w ≡ 8)
+Width w = (w ≡ maxLanes) ⊎ (w ≡ fewLanes)
 
 abbrev pub Reads : ℕ → List ℕ → List ℕ → ℕ → List ℕ → Type 0
 Reads w s inputs l x = (i : ℕ) → i < sizesOf s .d → lane w inputs i l ≡ getD x i 0
 
+abbrev pub StandsFor : ℕ → ℕ → ℤ → Type 0
+StandsFor m x u = x % 2 ^ m ≡ remainder u (2 ^ m)
+
 abbrev pub Held : ℕ → List ℕ → List ℕ → List ℕ → ℕ → ℕ → Type 0
-Held w s x rows l i = lane w rows i l % 2 ^ sizesOf s .m ≡ remainder (valueAt s x i) (2 ^ sizesOf s .m)
+Held w s x rows l i = StandsFor (sizesOf s .m) (lane w rows i l) (valueAt s x i)
 
 abbrev pub HeldTo : ℕ → List ℕ → List ℕ → List ℕ → ℕ → ℕ → Type 0
 HeldTo w s x rows l k = (i : ℕ) → i < k → Held w s x rows l i
 
 abbrev pub Shown : ℕ → List ℕ → List ℕ → List ℕ → ℕ → ℕ → Type 0
 Shown w s x rows l k = lane w rows k l % 2 ^ sizesOf s .m ≡ outputOf s x
-
-abbrev pub Beside : ℕ → List ℕ → List ℕ → Type 0
-Beside j x y = (i : ℕ) → ¬ (i ≡ j) → getD x i 0 ≡ getD y i 0
-
-abbrev pub Fixed : List ℕ → ℕ → ℕ → Type 0
-Fixed s j i = (x y : List ℕ) → Beside j x y → valueAt s x i ≡ valueAt s y i
-
-pub record Listed (n : ℕ) (list : List ℕ) (c : ℕ) : Type 0 where
-  pub room : c ≤ length list
-  pub below : (q : ℕ) → q < c → getD list q 0 < n
-  pub increasing : (p q : ℕ) → p < q → q < c → getD list p 0 < getD list q 0
-
-abbrev pub Rest : List ℕ → ℕ → ℕ → List ℕ → ℕ → Type 0
-Rest s j n list c = (i : ℕ) → i < n → ((q : ℕ) → q < c → ¬ (getD list q 0 ≡ i)) → Fixed s j i
 
 pub record Room (w : ℕ) (s : List ℕ) (n : ℕ) (inputs rows : List ℕ) : Type 0 where
   pub width : Width w
@@ -82,10 +66,9 @@ OnGrid s x = (i : ℕ) → i < sizesOf s .d → getD x i 0 < getD (axesOf (sizes
 abbrev pub LanesOnGrid : ℕ → List ℕ → List ℕ → Type 0
 LanesOnGrid w s inputs = (i l : ℕ) → i < sizesOf s .d → l < w → lane w inputs i l < getD (axesOf (sizesOf s)) i 0
 
-pub record Combined (w m op : ℕ) (before after : List ℕ) (k a b : ℕ) : Type 0 where
+pub record Product (w m : ℕ) (before after : List ℕ) (k a b : ℕ) : Type 0 where
   pub row :
-      (l : ℕ) (u v : ℤ) → l < w → lane w before a l % 2 ^ m ≡ remainder u (2 ^ m) → lane w before b l % 2 ^ m ≡ remainder v (2 ^ m) →
-      lane w after k l % 2 ^ m ≡ remainder (combined op u v) (2 ^ m)
+      (l : ℕ) (u v : ℤ) → l < w → StandsFor m (lane w before a l) u → StandsFor m (lane w before b l) v → StandsFor m (lane w after k l) (u *ℤ v)
   pub others : (i l : ℕ) → l < w → ¬ (i ≡ k) → lane w after i l ≡ lane w before i l
 
 pub record Stepped (w : ℕ) (s inputs before after : List ℕ) (k : ℕ) : Type 0 where

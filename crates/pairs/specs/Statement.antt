@@ -20,8 +20,8 @@ use mathlib.Core.Path.{_≡_}
 use Prim.Native.Nat.{ℕ, zero, suc, _-_, _<_}
 use lib.IntN.{ℤ, pos, _+ℤ_, _-ℤ_, _*ℤ_}
 use lib.ListN.{getD, length, replicate}
-use Rattle.file.specs.File.{sizesOf}
-use Rattle.file.specs.Steps.{stepsOf}
+use Rattle.fields.specs.File.{sizesOf}
+use Rattle.fields.specs.Steps.{stepsOf}
 use Rattle.sessions.specs.declared.Answer.{Answer}
 use Rattle.sizes.specs.Sizes.{maxInputs}
 use Rattle.steps.specs.Steps.{exact}

@@ -11,16 +11,17 @@ use mathlib.Core.List.{List, [], _∷_, _++_, map}
 use Prim.Native.Nat.{ℕ, zero, suc, _+_, _-_, _*_, _/_, _%_, _^_}
 use lib.ListN.{length, replicate}
 use Rattle.sizes.specs.Sizes.{maxInputs}
-use Rattle.steps.specs.Steps.{Step, input, constant, add, subtract, multiply}
+use Rattle.steps.specs.declared.Step.{Step}
+use Rattle.steps.specs.declared.Step.the-variants.{Input, Constant, Add, Subtract, Multiply}
 
 abbrev pub Expression : Type 0
 Expression = ℕ → List Step
 
 unfoldable pub x : ℕ → Expression
-x i k = input i ∷ []
+x i k = Input i ∷ []
 
 unfoldable pub number : ℕ → Expression
-number c k = constant c ∷ []
+number c k = Constant c ∷ []
 
 -- the operation o on the last steps of a and of b
 unfoldable pub joined : (ℕ → ℕ → Step) → Expression → Expression → Expression
@@ -33,13 +34,13 @@ joined o a b k =
 infixl 65 _⊕_ _⊖_
 infixl 70 _⊗_
 abbrev pub _⊕_ : Expression → Expression → Expression
-a ⊕ b = joined add a b
+a ⊕ b = joined Add a b
 
 abbrev pub _⊖_ : Expression → Expression → Expression
-a ⊖ b = joined subtract a b
+a ⊖ b = joined Subtract a b
 
 abbrev pub _⊗_ : Expression → Expression → Expression
-a ⊗ b = joined multiply a b
+a ⊗ b = joined Multiply a b
 
 unfoldable pub power : Expression → ℕ → Expression
 power e zero = number 1
@@ -55,18 +56,18 @@ bytes zero a = []
 bytes (suc n) a = a % 256 ∷ bytes n (a / 256)
 
 unfoldable pub operationByte : Step → ℕ
-operationByte (input i) = 1
-operationByte (constant c) = 2
-operationByte (add l r) = 3
-operationByte (subtract l r) = 4
-operationByte (multiply l r) = 5
+operationByte (Input i) = 1
+operationByte (Constant c) = 2
+operationByte (Add l r) = 3
+operationByte (Subtract l r) = 4
+operationByte (Multiply l r) = 5
 
 unfoldable pub argumentOf : Step → ℕ
-argumentOf (input i) = i
-argumentOf (constant c) = c
-argumentOf (add l r) = l + 2 ^ 16 * r
-argumentOf (subtract l r) = l + 2 ^ 16 * r
-argumentOf (multiply l r) = l + 2 ^ 16 * r
+argumentOf (Input i) = i
+argumentOf (Constant c) = c
+argumentOf (Add l r) = l + 2 ^ 16 * r
+argumentOf (Subtract l r) = l + 2 ^ 16 * r
+argumentOf (Multiply l r) = l + 2 ^ 16 * r
 
 unfoldable pub argumentBytes : List Step → List ℕ
 argumentBytes [] = []

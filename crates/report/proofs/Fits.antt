@@ -12,7 +12,7 @@ use Rattle.bound.specs.Axes.{axes}
 use Rattle.batches.proofs.OnGrid.{length-axes}
 use Rattle.engine.proofs.Prepared.{grid-fits}
 use Rattle.file.specs.Accepted.{Accepted}
-use Rattle.file.specs.File.{sizesOf}
+use Rattle.fields.specs.File.{sizesOf}
 use Rattle.grid.specs.Grid.{widthsOf, axesOf, gridSize}
 use Rattle.grid.proofs.Axes.{axis-most}
 use Rattle.sessions.specs.Session.{opened}

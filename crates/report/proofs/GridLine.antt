@@ -8,7 +8,7 @@ use lib.ListN.{length, take, length-take}
 use Rattle.batches.proofs.OnGrid.{length-axes}
 use Rattle.engine.proofs.Prepared.{axes-front}
 use Rattle.file.specs.Accepted.{Accepted}
-use Rattle.file.specs.File.{sizesOf}
+use Rattle.fields.specs.File.{sizesOf}
 use Rattle.grid.specs.Grid.{axesOf, gridSize, gridOf}
 use Rattle.grid.specs.declared.Grid.{Grid}
 use Rattle.sizes.specs.declared.Sizes.{Sizes}

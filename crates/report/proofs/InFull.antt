@@ -12,7 +12,7 @@ use lib.ListN.{take}
 use lib.Seq.{take-at}
 use borrow.Author.Tests.{ne-eqb}
 use Rattle.batches.proofs.OnGrid.{length-axes}
-use Rattle.file.specs.File.{sizesOf}
+use Rattle.fields.specs.File.{sizesOf}
 use Rattle.grid.specs.Grid.{axesOf, gridSize}
 use Rattle.places.proofs.LastAxis.{below-length}
 use Rattle.places.proofs.Places.{oneToOne}

@@ -10,7 +10,7 @@ use native.Mathlib.Omega.{arith}
 use lib.ListN.{getD}
 use borrow.Author.Tests.{lt-ltb, le-ltb, eq-eqb, ne-eqb}
 use Rattle.evaluate.specs.Evaluate.{outputOf}
-use Rattle.file.specs.File.{sizesOf}
+use Rattle.fields.specs.File.{sizesOf}
 use Rattle.grid.specs.Grid.{axesOf, gridSize}
 use Rattle.places.specs.Places.{vectorAt}
 use Rattle.sessions.specs.Demand3.{firstPlace, stop, stopVector, ShowsFirst, Settled}

@@ -7,7 +7,7 @@ use mathlib.Core.List.{List}
 use Prim.Native.Nat.{ℕ}
 use native.Mathlib.Omega.{arith}
 use lib.ListN.{take}
-use Rattle.file.specs.File.{sizesOf}
+use Rattle.fields.specs.File.{sizesOf}
 use Rattle.sessions.specs.Session.{opened}
 use Rattle.sessions.specs.declared.Answer.{Answer}
 use Rattle.sessions.specs.declared.Kind.{Kind}

@@ -27,8 +27,8 @@ use Prim.Native.Nat.{ℕ, _^_, _≤_, _<_}
 use lib.Dec.{eqb}
 use lib.ListN.{length, getD, take}
 use Rattle.evaluate.specs.Evaluate.{outputOf}
-use Rattle.file.specs.File.{sizesOf}
-use Rattle.file.specs.Steps.{stepsOf}
+use Rattle.fields.specs.File.{sizesOf}
+use Rattle.fields.specs.Steps.{stepsOf}
 use Rattle.grid.specs.Grid.{widthsOf, axesOf, gridSize}
 use Rattle.sessions.specs.Calls.{Call, answerTo, sessionAfter, answers, IsVerdict, vectorsRun}
 use Rattle.sessions.specs.Demand3.{Allowed, stop, FullWidth, start}

@@ -12,7 +12,7 @@ use Prim.Native.Nat.{ℕ}
 use lib.Dec.{ltb}
 use lib.ListN.{take}
 use Rattle.evaluate.specs.Evaluate.{outputOf}
-use Rattle.file.specs.File.{sizesOf}
+use Rattle.fields.specs.File.{sizesOf}
 use Rattle.grid.specs.Grid.{axesOf, gridSize}
 use Rattle.sessions.specs.Demand3.{firstPlace, stop, stopVector}
 use Rattle.sessions.specs.Session.{isRefusal, opened}

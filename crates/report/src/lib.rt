@@ -3,7 +3,7 @@ use crate::lines::put_grid;
 use crate::lines::put_refusal;
 use crate::lines::put_run;
 use crate::lines::put_verdict;
-use file::fields::read_sizes;
+use fields::read_sizes;
 use sessions::Answer;
 use sessions::Kind;
 use sessions::open_session;

@@ -2,7 +2,7 @@
 use crate::writing::put_bytes;
 use crate::writing::put_line;
 use crate::writing::put_words;
-use file::fields::read_sizes;
+use fields::read_sizes;
 use grid::grid_of;
 use sessions::Answer;
 use sessions::Kind;

@@ -1,6 +1,7 @@
 -- A loop that writes entries of a list one after another. `Put before after at f n`: the entries at 0, .. at (n − 1) hold f 0, .. f (n − 1), and
 -- every other entry is as before. put-none enters the loop, put-more makes one write. In a row of w lanes the entries are w · k + i: row-none and
--- row-more keep `Row`, row-all leaves with the row written, and row-kept reads an earlier row meanwhile.
+-- row-more keep `Row`, row-all leaves with the row written, and row-kept reads an earlier row meanwhile. left-row and right-row: the rows of
+-- operands lie within the list.
 -- Assumes nothing.
 use mathlib.Core.List.{List}
 use mathlib.Core.Path.{_≡_, refl, sym, _∙_, ap}
@@ -11,7 +12,7 @@ use native.Mathlib.Omega.{arith}
 use borrow.Author.Count.{below-more}
 use lib.ListN.{length, getD, set, length-set}
 use lib.Seq.{getD-set-same, getD-set-other}
-use Rattle.rows.specs.Rows.{lane, Written}
+use Rattle.rows.specs.Rows.{lane, HasRow, Written, Operands}
 
 pub record Put (before after : List ℕ) (at f : ℕ → ℕ) (n : ℕ) : Type 0 where
   pub long : length after ≡ length before
@@ -38,6 +39,13 @@ put-more {before} {after} {at} {f} {n} p v inside apart e =
 pub before-row : (w a k : ℕ) → a < k → w * a + w ≤ w * k
 before-row w a k h = omega (arith, mul-le-mul-left w h)
 
+module _ {w : ℕ} {ws : List ℕ} {k a b : ℕ} (o : Operands w ws k a b) where
+  pub left-row : HasRow w ws a
+  left-row = omega (arith, before-row w a k (o .left), o .room)
+
+  pub right-row : HasRow w ws b
+  right-row = omega (arith, before-row w b k (o .right), o .room)
+
 -- a lane of a row is no lane of another row
 rows-apart : (w i j k u : ℕ) → j < w → u < w → ¬ (i ≡ k) → ¬ (w * k + u ≡ w * i + j)
 rows-apart w i j k u hj hu d e =
@@ -56,7 +64,7 @@ pub row-none : (w : ℕ) (before : List ℕ) (k : ℕ) (f : ℕ → ℕ) → Row
 row-none w before k f = record { within = omega arith; put = put-none before _ f }
 
 module _ {w : ℕ} {before after : List ℕ} {k : ℕ} {f : ℕ → ℕ} {l : ℕ} (r : Row w before after k f l) where
-  pub row-more : w * k + w ≤ length before → l < w → (v : ℕ) → v ≡ f l → Row w before (set after (w * k + l) v) k f (l + 1)
+  pub row-more : HasRow w before k → l < w → (v : ℕ) → v ≡ f l → Row w before (set after (w * k + l) v) k f (l + 1)
   row-more room h v e = record { within = omega arith; put = put-more (r .put) v (omega arith) (λ i t q. omega arith) e }
 
   pub row-all : w ≤ l → Written w before after k f

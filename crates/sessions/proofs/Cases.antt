@@ -9,7 +9,7 @@ use lib.ListN.{length, drop, replicate}
 use borrow.Author.Tests.{lt-ltb, le-ltb, le-leb, lt-leb, ltb-true, ltb-false, not-false}
 use Rattle.engine.specs.Engine.{outputsDiffer, largerCount}
 use Rattle.evaluate.specs.Evaluate.{shortScratch}
-use Rattle.file.specs.File.{sizesOf}
+use Rattle.fields.specs.File.{sizesOf}
 use Rattle.grid.specs.Grid.{axesOf, gridSize}
 use Rattle.places.specs.Places.{vectorAt}
 use Rattle.search.specs.Search.{first}

@@ -12,7 +12,7 @@ use borrow.Author.Tests.{eq-eqb, ne-eqb, eqb-true, not-false}
 use Rattle.engine.specs.Engine.{Comparable}
 use Rattle.file.specs.Accepted.{Accepted}
 use Rattle.file.specs.Check.{fileNumber, refusalOf}
-use Rattle.file.specs.File.{sizesOf}
+use Rattle.fields.specs.File.{sizesOf}
 use Rattle.file.proofs.Accepted.{accepted}
 use Rattle.file.proofs.Number.{refusal-number}
 use Rattle.grid.proofs.Axes.{never-large}

@@ -9,8 +9,8 @@ use Prim.Native.Nat.{ℕ, _<_, _≤_}
 use native.Mathlib.Omega.{arith}
 use Rattle.evaluate.specs.Evaluate.{outputOf}
 use Rattle.file.specs.Accepted.{Accepted}
-use Rattle.file.specs.File.{sizesOf}
-use Rattle.file.specs.Steps.{stepsOf}
+use Rattle.fields.specs.File.{sizesOf}
+use Rattle.fields.specs.Steps.{stepsOf}
 use Rattle.grid.specs.Grid.{widthsOf, axesOf, gridSize}
 use Rattle.grid.proofs.Axes.{size-least}
 use Rattle.places.specs.Places.{vectorAt}

@@ -1,9 +1,9 @@
 // Sessions: opening one on two files, and continuing it under a budget.
 use engine::first_difference;
 use evaluate::output_at;
+use fields::read_sizes;
+use fields::step_count;
 use file::check_as;
-use file::fields::read_sizes;
-use file::fields::step_count;
 use grid::grid_of;
 use sizes::Refusal;
 use sizes::Sizes;
@@ -14,7 +14,7 @@ ghost use mathlib.Core.Path.{_≡_};
 ghost use Prim.Native.Nat.{_≤_, _<_, min, max};
 ghost use lib.ListN.{length, drop};
 ghost use Rattle.engine.specs.Engine.{largerCount, Comparable};
-ghost use Rattle.file.specs.File.{sizesOf};
+ghost use Rattle.fields.specs.File.{sizesOf};
 ghost use Rattle.grid.specs.Grid.{axesOf, gridSize};
 ghost use Rattle.places.specs.Places.{vectorAt};
 ghost use Rattle.sessions.specs.Session.{

@@ -5,7 +5,9 @@ use Prim.Native.Nat.{ℕ, zero, suc, _+_}
 use native.Mathlib.Numerals.{add-one}
 use lib.IntN.{ℤ}
 use lib.ListN.{length, getD, length-append}
-use Rattle.steps.specs.Steps.{Step, input, constant, add, subtract, multiply, inputValue, stepValue, values}
+use Rattle.steps.specs.Steps.{inputValue, stepValue, values}
+use Rattle.steps.specs.declared.Step.{Step}
+use Rattle.steps.specs.declared.Step.the-variants.{Input, Constant, Add, Subtract, Multiply}
 
 pub length-values : (ts : List Step) (x : List ℕ) (k : ℕ) → length (values ts x k) ≡ k
 unfolding values
@@ -14,20 +16,20 @@ length-values ts x (suc k) = rw (length-append, length-values ts x k) (add-one k
 
 pub values-more :
     (ts : List Step) (x : List ℕ) (k : ℕ) →
-    values ts x (k + 1) ≡ values ts x k ++ (stepValue x (values ts x k) (getD ts k (constant 0)) ∷ [])
+    values ts x (k + 1) ≡ values ts x k ++ (stepValue x (values ts x k) (getD ts k (Constant 0)) ∷ [])
 unfolding values
 values-more ts x k = rw add-one
 
 step-entries : (x y : List ℕ) (vs : List ℤ) (t : Step) → ((i : ℕ) → getD x i 0 ≡ getD y i 0) → stepValue x vs t ≡ stepValue y vs t
 unfolding stepValue
-step-entries x y vs (input i) e = ap inputValue (e i)
-step-entries x y vs (constant c) e = refl
-step-entries x y vs (add l r) e = refl
-step-entries x y vs (subtract l r) e = refl
-step-entries x y vs (multiply l r) e = refl
+step-entries x y vs (Input i) e = ap inputValue (e i)
+step-entries x y vs (Constant c) e = refl
+step-entries x y vs (Add l r) e = refl
+step-entries x y vs (Subtract l r) e = refl
+step-entries x y vs (Multiply l r) e = refl
 
 pub values-entries : (ts : List Step) (x y : List ℕ) (k : ℕ) → ((i : ℕ) → getD x i 0 ≡ getD y i 0) → values ts x k ≡ values ts y k
 unfolding values
 values-entries ts x y zero e = refl
 values-entries ts x y (suc k) e =
-    rw (values-entries ts x y k e) (ap (λ v. values ts y k ++ (v ∷ [])) (step-entries x y (values ts y k) (getD ts k (constant 0)) e))
+    rw (values-entries ts x y k e) (ap (λ v. values ts y k ++ (v ∷ [])) (step-entries x y (values ts y k) (getD ts k (Constant 0)) e))

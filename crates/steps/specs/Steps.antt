@@ -1,5 +1,4 @@
 -- The steps of a datapath, their exact values and the output (document 01, 'The datapath file' and 'Output, grid and order').
---   Step               an input by its index, a constant, or a sum, difference or product of two earlier steps
 --   inputValue t       the integer that an input holds whose value, counted from its lowest value, is t. The lowest value is 0
 --   stepValue x vs s   the exact value of step s at the vector x, where vs are the exact values of the steps before it
 --   values ts x k      the exact values of the first k of the steps ts at the vector x
@@ -10,29 +9,24 @@ use Prim.Native.Nat.{ℕ, zero, suc, _-_, _^_}
 use lib.IntN.{ℤ, pos, _+ℤ_, _-ℤ_, _*ℤ_}
 use lib.ListN.{getD, length}
 use Rattle.integers.specs.Modulo.{remainder}
-
-pub data Step : Type 0 where
-  input : ℕ → Step
-  constant : ℕ → Step
-  add : ℕ → ℕ → Step
-  subtract : ℕ → ℕ → Step
-  multiply : ℕ → ℕ → Step
+use Rattle.steps.specs.declared.Step.{Step}
+use Rattle.steps.specs.declared.Step.the-variants.{Input, Constant, Add, Subtract, Multiply}
 
 abbrev pub inputValue : ℕ → ℤ
 inputValue t = pos t
 
 unfoldable pub stepValue : List ℕ → List ℤ → Step → ℤ
-stepValue x vs (input i) = inputValue (getD x i 0)
-stepValue x vs (constant c) = pos c
-stepValue x vs (add l r) = getD vs l (pos 0) +ℤ getD vs r (pos 0)
-stepValue x vs (subtract l r) = getD vs l (pos 0) -ℤ getD vs r (pos 0)
-stepValue x vs (multiply l r) = getD vs l (pos 0) *ℤ getD vs r (pos 0)
+stepValue x vs (Input i) = inputValue (getD x i 0)
+stepValue x vs (Constant c) = pos c
+stepValue x vs (Add l r) = getD vs l (pos 0) +ℤ getD vs r (pos 0)
+stepValue x vs (Subtract l r) = getD vs l (pos 0) -ℤ getD vs r (pos 0)
+stepValue x vs (Multiply l r) = getD vs l (pos 0) *ℤ getD vs r (pos 0)
 
 unfoldable pub values : List Step → List ℕ → ℕ → List ℤ
 values ts x zero = []
 values ts x (suc k) =
     let before = values ts x k in
-    before ++ (stepValue x before (getD ts k (constant 0)) ∷ [])
+    before ++ (stepValue x before (getD ts k (Constant 0)) ∷ [])
 
 unfoldable pub exact : List Step → List ℕ → ℤ
 exact ts x = getD (values ts x (length ts)) (length ts - 1) (pos 0)

@@ -9,7 +9,7 @@ use native.Mathlib.Omega.{arith}
 use lib.ListN.{length, getD, take, drop, replicate}
 use borrow.Author.Tests.{lt-ltb, le-ltb, ltb-true, ltb-false, eq-eqb, ne-eqb, not-false}
 use Rattle.file.specs.Check.{fileNumber, refusalOf}
-use Rattle.file.specs.File.{sizesOf, stepCount}
+use Rattle.fields.specs.File.{sizesOf, stepCount}
 use Rattle.file.proofs.Accepted as file
 use Rattle.file.proofs.Number.{refusal-number}
 use Rattle.grid.specs.Grid.{gridSize, tooLarge}

@@ -13,8 +13,8 @@ use Rattle.differences.specs.Statement.{Cells}
 use Rattle.differences.specs.Table.{mixedDifference, listed, tableOf, given, sumBelow, summed}
 use Rattle.differences.proofs.Listed.{length-values, getD-values}
 use Rattle.differences.proofs.Tables.{sumOfDifferences, differencesOfSum}
-use Rattle.file.specs.File.{sizesOf}
-use Rattle.file.specs.Steps.{stepsOf}
+use Rattle.fields.specs.File.{sizesOf}
+use Rattle.fields.specs.Steps.{stepsOf}
 use Rattle.file.proofs.Number.{head-passed, number-zero}
 use Rattle.grid.specs.Grid.{axesOf, gridSize}
 use Rattle.integers.specs.Modulo.{remainder}

@@ -15,8 +15,8 @@ use Rattle.differences.proofs.Neighbours.{mixed-remainder}
 use Rattle.differences.proofs.Tables.{difference-mixed, sumOfTable}
 use Rattle.evaluate.specs.Evaluate.{outputOf}
 use Rattle.file.specs.Accepted.{Accepted}
-use Rattle.file.specs.File.{sizesOf, stepCount}
-use Rattle.file.specs.Steps.{stepsOf}
+use Rattle.fields.specs.File.{sizesOf, stepCount}
+use Rattle.fields.specs.Steps.{stepsOf}
 use Rattle.grid.specs.Grid.{axesOf, gridSize, gridOf}
 use Rattle.grid.specs.declared.Grid.{Grid}
 use Rattle.integers.specs.Modulo.{remainder}

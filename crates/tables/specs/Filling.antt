@@ -6,7 +6,7 @@ use mathlib.Core.List.{List}
 use Prim.Native.Nat.{ℕ, _≤_, _<_}
 use lib.ListN.{length, take}
 use Rattle.file.specs.Accepted.{Accepted}
-use Rattle.file.specs.File.{sizesOf, stepCount}
+use Rattle.fields.specs.File.{sizesOf, stepCount}
 use Rattle.places.specs.Places.{size}
 
 pub record Filling (s : List ℕ) (n : ℕ) (axes : List ℕ) (d count : ℕ) (scratch table : List ℕ) : Type 0 where

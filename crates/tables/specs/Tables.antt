@@ -18,8 +18,8 @@ use lib.ListN.{length, getD, take, drop, replicate}
 use Rattle.differences.specs.Table.{tableOf, given, summed}
 use Rattle.evaluate.specs.Evaluate.{shortScratch}
 use Rattle.file.specs.Check.{fileNumber, refusalOf}
-use Rattle.file.specs.File.{sizesOf, stepCount}
-use Rattle.file.specs.Steps.{stepsOf}
+use Rattle.fields.specs.File.{sizesOf, stepCount}
+use Rattle.fields.specs.Steps.{stepsOf}
 use Rattle.grid.specs.Grid.{axesOf, gridSize, tooLarge}
 use Rattle.search.specs.Search.{every}
 use Rattle.sizes.specs.Sizes.{badOutput, badInputs, badWidths, refusedBy, accepted}

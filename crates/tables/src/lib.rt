@@ -1,8 +1,8 @@
 // Difference tables: of a file, of given outputs, and summed back. Document 01's number G is the size of the grid.
 use evaluate::output_at;
+use fields::read_sizes;
+use fields::step_count;
 use file::check;
-use file::fields::read_sizes;
-use file::fields::step_count;
 use grid::grid_of;
 use sizes::Refusal;
 use sizes::Sizes;
@@ -24,7 +24,7 @@ ghost use lib.ListN.{length, take, drop, replicate};
 ghost use Rattle.differences.specs.Table.{listed};
 ghost use Rattle.evaluate.specs.Evaluate.{outputOf};
 ghost use Rattle.file.specs.Accepted.{Accepted};
-ghost use Rattle.file.specs.File.{sizesOf, stepCount};
+ghost use Rattle.fields.specs.File.{sizesOf, stepCount};
 ghost use Rattle.grid.specs.Grid.{gridSize};
 ghost use Rattle.sizes.specs.Sizes.{maxInputs};
 ghost use Rattle.tables.specs.Filling.{Filling};

@@ -22,7 +22,9 @@ use Rattle.newton.specs.Polynomial.{value}
 use Rattle.newton.proofs.Arithmetic.{value-add, value-sub, value-mul, value-constant, value-shifted}
 use Rattle.newton.proofs.OneVariable.{oneVariable}
 use Rattle.search.proofs.Search.{true-or-false}
-use Rattle.steps.specs.Steps.{Step, input, constant, add, subtract, multiply, inputValue, stepValue, values, exact, output}
+use Rattle.steps.specs.Steps.{inputValue, stepValue, values, exact, output}
+use Rattle.steps.specs.declared.Step.{Step}
+use Rattle.steps.specs.declared.Step.the-variants.{Input, Constant, Add, Subtract, Multiply}
 use Rattle.theorem.specs.Comparison.{Agree}
 
 -- an entry other than the one between two lists does not depend on that one
@@ -41,17 +43,17 @@ module _ (pre post : List ℕ) where
   inputPolynomial i = cond (eqb i (length pre)) (inputValue 0 ∷ pos 1 ∷ []) (inputValue (getD (along 0) i 0) ∷ [])
 
   stepPolynomial : List (List ℤ) → Step → List ℤ
-  stepPolynomial ps (input i) = inputPolynomial i
-  stepPolynomial ps (constant c) = pos c ∷ []
-  stepPolynomial ps (add l r) = Newton.add (getD ps l []) (getD ps r [])
-  stepPolynomial ps (subtract l r) = Newton.sub (getD ps l []) (getD ps r [])
-  stepPolynomial ps (multiply l r) = Newton.mul (getD ps l []) (getD ps r [])
+  stepPolynomial ps (Input i) = inputPolynomial i
+  stepPolynomial ps (Constant c) = pos c ∷ []
+  stepPolynomial ps (Add l r) = Newton.add (getD ps l []) (getD ps r [])
+  stepPolynomial ps (Subtract l r) = Newton.sub (getD ps l []) (getD ps r [])
+  stepPolynomial ps (Multiply l r) = Newton.mul (getD ps l []) (getD ps r [])
 
   polynomials : List Step → ℕ → List (List ℤ)
   polynomials ts zero = []
   polynomials ts (suc k) =
       let before = polynomials ts k in
-      before ++ (stepPolynomial before (getD ts k (constant 0)) ∷ [])
+      before ++ (stepPolynomial before (getD ts k (Constant 0)) ∷ [])
 
   exactPolynomial : List Step → List ℤ
   exactPolynomial ts = getD (polynomials ts (length ts)) (length ts - 1) []
@@ -76,11 +78,11 @@ module _ (pre post : List ℕ) where
 
     step-valued : (ps : List (List ℤ)) (s : Step) → stepValue (along t) (map at ps) s ≡ at (stepPolynomial ps s)
     unfolding stepValue stepPolynomial at
-    step-valued ps (input i) = input-valued i
-    step-valued ps (constant c) = sym (value-constant (pos c) (pos t))
-    step-valued ps (add l r) = ap₂ (λ y z. y +ℤ z) (operand ps l) (operand ps r) ∙ sym (value-add (getD ps l []) (getD ps r []) (pos t))
-    step-valued ps (subtract l r) = ap₂ (λ y z. y -ℤ z) (operand ps l) (operand ps r) ∙ sym (value-sub (getD ps l []) (getD ps r []) (pos t))
-    step-valued ps (multiply l r) = ap₂ (λ y z. y *ℤ z) (operand ps l) (operand ps r) ∙ sym (value-mul (getD ps l []) (getD ps r []) (pos t))
+    step-valued ps (Input i) = input-valued i
+    step-valued ps (Constant c) = sym (value-constant (pos c) (pos t))
+    step-valued ps (Add l r) = ap₂ (λ y z. y +ℤ z) (operand ps l) (operand ps r) ∙ sym (value-add (getD ps l []) (getD ps r []) (pos t))
+    step-valued ps (Subtract l r) = ap₂ (λ y z. y -ℤ z) (operand ps l) (operand ps r) ∙ sym (value-sub (getD ps l []) (getD ps r []) (pos t))
+    step-valued ps (Multiply l r) = ap₂ (λ y z. y *ℤ z) (operand ps l) (operand ps r) ∙ sym (value-mul (getD ps l []) (getD ps r []) (pos t))
 
     all-valued : (ts : List Step) (k : ℕ) → values ts (along t) k ≡ map at (polynomials ts k)
     unfolding values polynomials

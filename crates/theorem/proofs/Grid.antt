@@ -19,7 +19,8 @@ use Rattle.places.proofs.Order.{before-irrefl, before-trans}
 use Rattle.places.proofs.Places.{oneToOne, before-place}
 use Rattle.search.specs.Search.{first}
 use Rattle.search.proofs.Search.{first-found, first-before}
-use Rattle.steps.specs.Steps.{Step, output}
+use Rattle.steps.specs.Steps.{output}
+use Rattle.steps.specs.declared.Step.{Step}
 use Rattle.theorem.specs.Comparison.{Agree, differsAt, firstDifference}
 use Rattle.theorem.specs.Statement.{GridTheorem}
 use Rattle.theorem.proofs.Along.{agree-along}

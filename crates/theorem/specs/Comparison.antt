@@ -11,7 +11,8 @@ use lib.Dec.{eqb}
 use Rattle.bound.specs.Axes.{ranges}
 use Rattle.places.specs.Places.{Below, Before, size, vectorAt}
 use Rattle.search.specs.Search.{first}
-use Rattle.steps.specs.Steps.{Step, output}
+use Rattle.steps.specs.Steps.{output}
+use Rattle.steps.specs.declared.Step.{Step}
 
 abbrev pub Agree : ℕ → List Step → List Step → List ℕ → Type 0
 Agree m ts₁ ts₂ x = output m ts₁ x ≡ output m ts₂ x

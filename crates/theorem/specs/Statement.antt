@@ -9,7 +9,7 @@ use mathlib.Core.List.{List}
 use Prim.Native.Nat.{ℕ, _≤_, _<_}
 use Rattle.bound.specs.Axes.{ranges, axes}
 use Rattle.places.specs.Places.{Below, size, vectorAt}
-use Rattle.steps.specs.Steps.{Step}
+use Rattle.steps.specs.declared.Step.{Step}
 use Rattle.theorem.specs.Comparison.{Agree, firstDifference, IsFirst}
 
 pub record OnGrid (m : ℕ) (ns : List ℕ) (ts₁ ts₂ : List Step) : Type 0 where

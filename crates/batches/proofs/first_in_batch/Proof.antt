@@ -8,7 +8,7 @@ use native.Mathlib.Omega.{arith}
 use borrow.Author.Needs.{needs}
 use denote.Ref.{now}
 use lib.ListN.{length, getD}
-use Rattle.file.specs.File.{sizesOf}
+use Rattle.fields.specs.File.{sizesOf}
 use Rattle.lanes.specs.Lanes.{Reads, Shown, LanesOnGrid}
 use Rattle.lanes.proofs.Stepped.{width-most}
 use Rattle.batches.proofs.OnGrid.{same-grid, lanes-on-grid}

@@ -11,7 +11,7 @@ use mir.Syntax.{w64}
 use mir.Val.{Fits}
 use Rattle.batches.proofs.OnGrid.{same-grid}
 use Rattle.batches.proofs.Tests.{last₁, last₂, room₁, room₂, prepared-kept}
-use Rattle.file.specs.File.{sizesOf}
+use Rattle.fields.specs.File.{sizesOf}
 use Rattle.grid.specs.Grid.{axesOf}
 use Rattle.lanes.specs.Lanes.{LanesOnGrid}
 use Rattle.rows.proofs.Writing.{before-row}

@@ -12,7 +12,7 @@ use Rattle.batches.specs.Prepared.{maxAxis}
 use Rattle.batches.proofs.OnGrid.{axis-within, same-grid}
 use Rattle.batches.proofs.Tests.{room₁, room₂}
 use Rattle.evaluate.specs.Evaluate.{outputOf}
-use Rattle.file.specs.File.{sizesOf}
+use Rattle.fields.specs.File.{sizesOf}
 use Rattle.grid.specs.Grid.{axesOf}
 use Rattle.lanes.specs.Lanes.{Shown}
 use Rattle.rows.specs.Rows.{lane}

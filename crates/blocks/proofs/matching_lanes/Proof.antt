@@ -6,7 +6,7 @@ use mathlib.Core.Path.{refl, _∙_}
 use Prim.Native.Nat.{ℕ, _-_, _≤_}
 use native.Mathlib.Omega.{arith}
 use borrow.Author.Needs.{needs}
-use Rattle.file.specs.File.{sizesOf}
+use Rattle.fields.specs.File.{sizesOf}
 use Rattle.rows.proofs.Writing.{before-row}
 use Rattle.blocks.proofs.Along.{Walked, SavedTo, walk-none, walk-grid, walk-more, match-more}
 use Rattle.blocks.proofs.matching_lanes.Statement.{statement}

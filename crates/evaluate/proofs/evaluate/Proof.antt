@@ -42,7 +42,7 @@ unfolding answer
 returns c =
     let a = c .before .before .before .before .before .args in
     let w = answer-refused (now (a .file)) (now (a .vector)) (now (a .scratch)) (λ e. c .if1 .taken (number (c .before) ∙ e)) in
-    (ap (λ r. answer r 0) (c .before .refusal-at .ensures) ∙ w .0, w .1)
+    record { answer = ap (λ r. answer r 0) (c .before .refusal-at .ensures) ∙ w .0; scratch = w .1 }
 
 step-count-requires : tie.Need-step-count-requires
 step-count-requires c κs = rules c .long
@@ -76,13 +76,15 @@ returns-2 c =
     let g = c .before .before .before .before .before .before .before .before .before in
     let n = c .before .before .before .before .before .before .before .before .step-count .ensures .0 in
     let o = c .before .before .before .before .before .before .output-at .ensures in
-    let w = answer-accepted (now (a .file)) (now (a .vector)) (now (a .scratch)) (sym (number (g .before)) ∙ g .if1 .left) in (
-      ap₂ answer (g .before .refusal-at .ensures) (o .0) ∙ w .0,
-      c .before .before .clear .ensures
-          ∙ ap (λ l. replicate (c .before .before .before .before .before .before .before .before .step-count .result) 0 ++ l) (o .1)
+    let w = answer-accepted (now (a .file)) (now (a .vector)) (now (a .scratch)) (sym (number (g .before)) ∙ g .if1 .left) in
+    record {
+      answer = ap₂ answer (g .before .refusal-at .ensures) (o .output) ∙ w .0;
+      scratch =
+          c .before .before .clear .ensures
+          ∙ ap (λ l. replicate (c .before .before .before .before .before .before .before .before .step-count .result) 0 ++ l) (o .kept)
           ∙ ap (λ k. replicate k 0 ++ drop k (now (a .scratch))) n
-          ∙ w .1,
-    )
+          ∙ w .1;
+    }
 
 pub evaluate-spec : {M : Type 1} → statement M
 evaluate-spec =

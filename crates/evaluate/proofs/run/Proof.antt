@@ -8,10 +8,11 @@ use native.Mathlib.Omega.{arith}
 use borrow.Author.Needs.{needs}
 use lib.ListN.{length, getD, drop, set, length-map, length-set, length-drop}
 use lib.Seq.{take-at, drop-drop}
-use Rattle.file.specs.Steps.{stepAt, stepsOf}
-use Rattle.file.proofs.Steps.{steps-at}
+use Rattle.fields.specs.Steps.{stepAt, stepsOf}
+use Rattle.fields.proofs.Steps.{steps-at}
 use Rattle.lists.proofs.Lists.{map-append, set-front}
-use Rattle.steps.specs.Steps.{constant, stepValue, values}
+use Rattle.steps.specs.Steps.{stepValue, values}
+use Rattle.steps.specs.declared.Step.the-variants.{Constant}
 use Rattle.steps.proofs.Values.{length-values, values-more}
 use Rattle.words.specs.Words.{word}
 use Rattle.evaluate.specs.Run.{Ready, Running}
@@ -47,7 +48,7 @@ module _ (s : List ℕ) (n : ℕ) (x scratch₀ scratch : List ℕ) (k : ℕ) (r
       next : map word (values (stepsOf s) x (k + 1)) ≡ map word (values (stepsOf s) x k) ++ (v ∷ [])
       next =
           ap (map word) (values-more (stepsOf s) x k)
-          ∙ map-append word (values (stepsOf s) x k) (stepValue x (values (stepsOf s) x k) (getD (stepsOf s) k (constant 0)) ∷ [])
+          ∙ map-append word (values (stepsOf s) x k) (stepValue x (values (stepsOf s) x k) (getD (stepsOf s) k (Constant 0)) ∷ [])
           ∙ ap (λ t. map word (values (stepsOf s) x k) ++ (word (stepValue x (values (stepsOf s) x k) t) ∷ [])) (steps-at s k (omega (arith, r .count)))
           ∙ ap (λ w. map word (values (stepsOf s) x k) ++ (w ∷ [])) (sym e)
 

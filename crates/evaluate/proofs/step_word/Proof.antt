@@ -1,131 +1,162 @@
--- `evaluate::step_word` meets its contract, by the operation of the step: an accepted file keeps an input's index below d and the operands
--- of the others before step k, where the scratch slice holds their values.
+-- `evaluate::step_word` meets its contract, by what the step is: an accepted file keeps an input's index below d and the operands of the others
+-- before step k, where the scratch slice holds their values.
 -- Assumes nothing.
 use mathlib.Core.List.{List}
-use mathlib.Core.Path.{sym, _∙_, ap}
-use Prim.Native.Nat.{ℕ, _<_, _≤_}
+use mathlib.Core.Path.{_≡_, refl}
+use Prim.Native.Nat.{ℕ, _<_}
 use native.Mathlib.Omega.{arith}
-use denote.Ref.{now}
-use lib.IntN.{pos}
-use lib.ListN.{getD, length}
-use Rattle.file.specs.File.{stepCount, operation, argument, leftOperand, rightOperand}
-use Rattle.file.specs.Steps.{stepsOf}
-use Rattle.steps.specs.Steps.{values}
-use Rattle.words.specs.Words.{word}
-use Rattle.evaluate.specs.Run.{combined}
-use Rattle.evaluate.proofs.Words.{operand-word, input-word, constant-word, combined-word}
 use borrow.Author.Needs.{needs}
+use denote.Ref.{now}
+use lib.ListN.{length}
+use Rattle.fields.specs.File.{sizesOf}
+use Rattle.fields.specs.Steps.{stepAt}
+use Rattle.file.proofs.Accepted.{Is, is}
+use Rattle.steps.specs.declared.Step.{Step}
+use Rattle.steps.specs.declared.Step.the-variants.{Input, Add, Subtract, Multiply}
+use Rattle.evaluate.specs.Run.{Running}
+use Rattle.evaluate.proofs.Words.{input-word, constant-word, sum-word, difference-word, product-word}
 use Rattle.evaluate.proofs.step_word.Statement.{statement}
 use Rattle.evaluate.proofs.step_word.Tie as tie
 
--- an input's index is below d
-index : (c : tie.Then1) → c .before .argument .result < length (now (c .before .before .before .before .before .before .args .vector))
-index c =
-    let p = c .before .before .before .before .before .before .pre in
-    let s = now (c .before .before .before .before .before .before .args .file) in
-    let k = c .before .before .before .before .before .before .args .k in
-    let o = sym (c .before .before .operation .ensures .0) ∙ c .if1 .taken in
-    omega (arith, p .0 .ready .sound .inputArgument k (omega (arith, p .0 .ready .count)) o, p .0 .ready .inputs, c .before .argument .ensures .0)
+-- step k is what is read of it
+module _ (s : List ℕ) (n : ℕ) (x scratch : List ℕ) (k : ℕ) (p : Running s n x scratch k) (h : k < n) (t u : Step) (e : t ≡ stepAt s k) (q : t ≡ u) where
+  read : Is s k u
+  read = is s n k (record { sound = p .ready .sound; count = p .ready .count }) h t u e q
 
--- the other operations have operands before step k
-record Operands (s : List ℕ) (k : ℕ) : Type 0 where
-  low : 3 ≤ operation s k
-  high : operation s k ≤ 5
-  left : leftOperand (argument s k) < k
-  right : rightOperand (argument s k) < k
+-- the rule of the step in each arm
+input-rule : (c : tie.After-known-told) → c .before .step .given .0 .0 < sizesOf (now (c .before .before .before .before .before .before .before .args .file)) .d
+input-rule c = read _ _ _ _ _ (c .before .before .before .before .before .before .before .pre .0) (c .before .before .before .before .before .before .before .pre .1) _ _ (c .before .before .before .step-at .ensures) (c .before .step .given .1) .rule
 
-operands : (c : tie.Else2) → Operands (now (c .before .before .before .before .before .before .before .args .file)) (c .before .before .before .before .before .before .before .args .k)
-operands c =
-    let p = c .before .before .before .before .before .before .before .pre in
-    let k = c .before .before .before .before .before .before .before .args .k in
-    let sound = p .0 .ready .sound in
-    let h : k < stepCount (now (c .before .before .before .before .before .before .before .args .file)) = omega (arith, p .0 .ready .count) in
-    let low : 3 ≤ operation (now (c .before .before .before .before .before .before .before .args .file)) k =
-    omega (arith, sound .operationLow k h, c .before .before .before .operation .ensures .0, c .if2 .left, c .before .if1 .left) in
-    record { low = low; high = sound .operationHigh k h; left = sound .leftBefore k h low; right = sound .rightBefore k h low }
+add-rule : (c : tie.After-known-told3) → (c .before .step3 .given .0 .0 < c .before .before .before .before .before .before .before .args .k) × (c .before .step3 .given .0 .1 .0 < c .before .before .before .before .before .before .before .args .k)
+add-rule c = read _ _ _ _ _ (c .before .before .before .before .before .before .before .pre .0) (c .before .before .before .before .before .before .before .pre .1) _ _ (c .before .before .before .step-at .ensures) (c .before .step3 .given .1) .rule
 
-operation-requires : tie.Need-operation-requires
-operation-requires c κs = search needs
+subtract-rule : (c : tie.After-known-told4) → (c .before .step4 .given .0 .0 < c .before .before .before .before .before .before .before .args .k) × (c .before .step4 .given .0 .1 .0 < c .before .before .before .before .before .before .before .args .k)
+subtract-rule c = read _ _ _ _ _ (c .before .before .before .before .before .before .before .pre .0) (c .before .before .before .before .before .before .before .pre .1) _ _ (c .before .before .before .step-at .ensures) (c .before .step4 .given .1) .rule
 
-argument-requires : tie.Need-argument-requires
-argument-requires c κs = search needs
+multiply-rule : (c : tie.After-known-told5) → (c .before .step5 .given .0 .0 < c .before .before .before .before .before .before .before .args .k) × (c .before .step5 .given .0 .1 .0 < c .before .before .before .before .before .before .before .args .k)
+multiply-rule c = read _ _ _ _ _ (c .before .before .before .before .before .before .before .pre .0) (c .before .before .before .before .before .before .before .pre .1) _ _ (c .before .before .before .step-at .ensures) (c .before .step5 .given .1) .rule
+
+step-at-requires : tie.Need-step-at-requires
+step-at-requires c κs = search needs
+
+enum-known-step : tie.Need-enum-known-step
+enum-known-step c = search needs
 
 mul-result : tie.Need-mul-result
-mul-result c = omega (arith, index c)
+mul-result c = omega (arith, input-rule c, c .before .before .before .before .before .before .before .pre .0 .ready .sound .inputsHigh)
 
 shared-slice-read-result : tie.Need-shared-slice-read-result
-shared-slice-read-result c = index (c .before)
+shared-slice-read-result c = omega (arith, input-rule (c .before), c .before .before .before .before .before .before .before .before .pre .0 .ready .inputs)
+
+enum-known-step-2 : tie.Need-enum-known-step-2
+enum-known-step-2 c = search needs
+
+enum-known-step-3 : tie.Need-enum-known-step-3
+enum-known-step-3 c = search needs
+
+mul-wrapping-add-u64 : tie.Need-mul-wrapping-add-u64
+mul-wrapping-add-u64 c = omega (arith, add-rule c .0, c .before .before .before .before .before .before .before .pre .1, c .before .before .before .before .before .before .before .pre .0 .ready .room, c .before .before .before .before .before .before .before .pre .0 .ready .count, c .before .before .before .before .before .before .before .pre .0 .ready .sound .countHigh)
+
+shared-slice-read-wrapping-add-u64 : tie.Need-shared-slice-read-wrapping-add-u64
+shared-slice-read-wrapping-add-u64 c = omega (arith, add-rule (c .before) .0, c .before .before .before .before .before .before .before .before .pre .1, c .before .before .before .before .before .before .before .before .pre .0 .ready .room)
+
+mul-wrapping-add-u64-2 : tie.Need-mul-wrapping-add-u64-2
+mul-wrapping-add-u64-2 c = omega (arith, add-rule (c .before) .1, c .before .before .before .before .before .before .before .before .pre .1, c .before .before .before .before .before .before .before .before .pre .0 .ready .room, c .before .before .before .before .before .before .before .before .pre .0 .ready .count, c .before .before .before .before .before .before .before .before .pre .0 .ready .sound .countHigh)
+
+shared-slice-read-wrapping-add-u64-2 : tie.Need-shared-slice-read-wrapping-add-u64-2
+shared-slice-read-wrapping-add-u64-2 c = omega (arith, add-rule (c .before .before) .1, c .before .before .before .before .before .before .before .before .before .pre .1, c .before .before .before .before .before .before .before .before .before .pre .0 .ready .room)
+
+wrapping-add-u64-requires : tie.Need-wrapping-add-u64-requires
+wrapping-add-u64-requires c κs = search needs
+
+enum-known-step-4 : tie.Need-enum-known-step-4
+enum-known-step-4 c = search needs
+
+mul-wrapping-sub-u64 : tie.Need-mul-wrapping-sub-u64
+mul-wrapping-sub-u64 c = omega (arith, subtract-rule c .0, c .before .before .before .before .before .before .before .pre .1, c .before .before .before .before .before .before .before .pre .0 .ready .room, c .before .before .before .before .before .before .before .pre .0 .ready .count, c .before .before .before .before .before .before .before .pre .0 .ready .sound .countHigh)
+
+shared-slice-read-wrapping-sub-u64 : tie.Need-shared-slice-read-wrapping-sub-u64
+shared-slice-read-wrapping-sub-u64 c = omega (arith, subtract-rule (c .before) .0, c .before .before .before .before .before .before .before .before .pre .1, c .before .before .before .before .before .before .before .before .pre .0 .ready .room)
+
+mul-wrapping-sub-u64-2 : tie.Need-mul-wrapping-sub-u64-2
+mul-wrapping-sub-u64-2 c = omega (arith, subtract-rule (c .before) .1, c .before .before .before .before .before .before .before .before .pre .1, c .before .before .before .before .before .before .before .before .pre .0 .ready .room, c .before .before .before .before .before .before .before .before .pre .0 .ready .count, c .before .before .before .before .before .before .before .before .pre .0 .ready .sound .countHigh)
+
+shared-slice-read-wrapping-sub-u64-2 : tie.Need-shared-slice-read-wrapping-sub-u64-2
+shared-slice-read-wrapping-sub-u64-2 c = omega (arith, subtract-rule (c .before .before) .1, c .before .before .before .before .before .before .before .before .before .pre .1, c .before .before .before .before .before .before .before .before .before .pre .0 .ready .room)
+
+wrapping-sub-u64-requires : tie.Need-wrapping-sub-u64-requires
+wrapping-sub-u64-requires c κs = search needs
+
+enum-known-step-5 : tie.Need-enum-known-step-5
+enum-known-step-5 c = search needs
+
+mul-wrapping-mul : tie.Need-mul-wrapping-mul
+mul-wrapping-mul c = omega (arith, multiply-rule c .0, c .before .before .before .before .before .before .before .pre .1, c .before .before .before .before .before .before .before .pre .0 .ready .room, c .before .before .before .before .before .before .before .pre .0 .ready .count, c .before .before .before .before .before .before .before .pre .0 .ready .sound .countHigh)
+
+shared-slice-read-wrapping-mul : tie.Need-shared-slice-read-wrapping-mul
+shared-slice-read-wrapping-mul c = omega (arith, multiply-rule (c .before) .0, c .before .before .before .before .before .before .before .before .pre .1, c .before .before .before .before .before .before .before .before .pre .0 .ready .room)
+
+mul-wrapping-mul-2 : tie.Need-mul-wrapping-mul-2
+mul-wrapping-mul-2 c = omega (arith, multiply-rule (c .before) .1, c .before .before .before .before .before .before .before .before .pre .1, c .before .before .before .before .before .before .before .before .pre .0 .ready .room, c .before .before .before .before .before .before .before .before .pre .0 .ready .count, c .before .before .before .before .before .before .before .before .pre .0 .ready .sound .countHigh)
+
+shared-slice-read-wrapping-mul-2 : tie.Need-shared-slice-read-wrapping-mul-2
+shared-slice-read-wrapping-mul-2 c = omega (arith, multiply-rule (c .before .before) .1, c .before .before .before .before .before .before .before .before .before .pre .1, c .before .before .before .before .before .before .before .before .before .pre .0 .ready .room)
+
+wrapping-mul-requires : tie.Need-wrapping-mul-requires
+wrapping-mul-requires c κs = search needs
 
 returns : tie.Need-returns
 returns c =
-    input-word _ _ _ _ _ (sym (c .before .before .before .operation .ensures .0) ∙ c .before .if1 .taken)
-    (ap (λ i. getD (now (c .before .before .before .before .before .before .before .args .vector)) i 0) (c .before .before .argument .ensures .0))
-    (omega (arith, c .shared-slice-known4 .given (c .before .before .argument .result)))
+    input-word _ _ _ _ _ _ (c .before .before .before .before .before .before .before .before .pre .0 .held) _ (read _ _ _ _ _ (c .before .before .before .before .before .before .before .before .pre .0) (c .before .before .before .before .before .before .before .before .pre .1) _ _ (c .before .before .before .before .step-at .ensures) (c .before .before .step .given .1) .step) refl (omega (arith, c .shared-slice-known4 .given (c .before .before .step .given .0 .0)))
 
 returns-2 : tie.Need-returns-2
 returns-2 c =
-    constant-word _ _ _ _ _ (sym (c .before .before .before .operation .ensures .0) ∙ c .if2 .taken) (c .before .before .argument .ensures .0)
-    (c .before .before .argument .ensures .1)
-
-left-operand-requires : tie.Need-left-operand-requires
-left-operand-requires c κs = search needs
-
-mul-left : tie.Need-mul-left
-mul-left c = search needs
-
-shared-slice-read-left : tie.Need-shared-slice-read-left
-shared-slice-read-left c =
-    omega (arith, operands (c .before .before) .left, c .before .left-operand .ensures .0, ap leftOperand (c .before .before .before .before .argument .ensures .0))
-
-right-operand-requires : tie.Need-right-operand-requires
-right-operand-requires c κs = search needs
-
-mul-right : tie.Need-mul-right
-mul-right c = search needs
-
-shared-slice-read-right : tie.Need-shared-slice-read-right
-shared-slice-read-right c =
-    omega (
-      arith,
-      operands (c .before .before .before .before) .right,
-      c .before .right-operand .ensures .0,
-      ap rightOperand (c .before .before .before .before .before .before .argument .ensures .0),
-    )
-
-combine-requires : tie.Need-combine-requires
-combine-requires c κs = search needs
+    constant-word _ _ _ _ _ _ (c .before .before .before .before .before .before .before .pre .0 .held) (read _ _ _ _ _ (c .before .before .before .before .before .before .before .pre .0) (c .before .before .before .before .before .before .before .pre .1) _ _ (c .before .before .before .step-at .ensures) (c .before .step2 .given .1) .step) (omega (arith, c .known-told2 .given))
 
 returns-3 : tie.Need-returns-3
 returns-3 c =
-    let o = operands (c .before .before .before .before .before) in
-    let a = c .before .before .before .before .before .before .before .argument .ensures .0 in
-    let p = c .before .before .before .before .before .before .before .before .before .before .before .before .pre .0 in
-    let x = now (c .before .before .before .before .before .before .before .before .before .before .before .before .args .vector) in
-    let s = now (c .before .before .before .before .before .before .before .before .before .before .before .before .args .file) in
-    let scratch = now (c .before .before .before .before .before .before .before .before .before .before .before .before .args .scratch) in
-    let k = c .before .before .before .before .before .before .before .before .before .before .before .before .args .k in
-    let vs = values (stepsOf s) x k in
-    combined-word s x vs k _ (o .low) (o .high)
-    (c .combine .ensures (getD vs (leftOperand (argument s k)) (pos 0)) (getD vs (rightOperand (argument s k)) (pos 0))
-    (ap (λ i. getD scratch i 0) (c .before .before .before .before .left-operand .ensures .0 ∙ ap leftOperand a) ∙ operand-word scratch vs k (leftOperand (argument s k)) (p .held) (o .left))
-    (ap (λ i. getD scratch i 0) (c .before .before .right-operand .ensures .0 ∙ ap rightOperand a) ∙ operand-word scratch vs k (rightOperand (argument s k)) (p .held) (o .right))
-    ∙ ap (λ i. word (combined i (getD vs (leftOperand (argument s k)) (pos 0)) (getD vs (rightOperand (argument s k)) (pos 0)))) (c .before .before .before .before .before .before .before .before .operation .ensures .0))
+    let rule = add-rule (c .before .before .before) in
+    sum-word _ _ _ _ _ _ (c .before .before .before .before .before .before .before .before .before .before .pre .0 .held) _ _ (rule .0) (rule .1) (read _ _ _ _ _ (c .before .before .before .before .before .before .before .before .before .before .pre .0) (c .before .before .before .before .before .before .before .before .before .before .pre .1) _ _ (c .before .before .before .before .before .before .step-at .ensures) (c .before .before .before .before .step3 .given .1) .step) (c .wrapping-add-u64 .ensures)
+
+returns-4 : tie.Need-returns-4
+returns-4 c =
+    let rule = subtract-rule (c .before .before .before) in
+    difference-word _ _ _ _ _ _ (c .before .before .before .before .before .before .before .before .before .before .pre .0 .held) _ _ (rule .0) (rule .1) (read _ _ _ _ _ (c .before .before .before .before .before .before .before .before .before .before .pre .0) (c .before .before .before .before .before .before .before .before .before .before .pre .1) _ _ (c .before .before .before .before .before .before .step-at .ensures) (c .before .before .before .before .step4 .given .1) .step) (omega arith) (c .wrapping-sub-u64 .ensures)
+
+returns-5 : tie.Need-returns-5
+returns-5 c =
+    let rule = multiply-rule (c .before .before .before) in
+    product-word _ _ _ _ _ _ (c .before .before .before .before .before .before .before .before .before .before .pre .0 .held) _ _ (rule .0) (rule .1) (read _ _ _ _ _ (c .before .before .before .before .before .before .before .before .before .before .pre .0) (c .before .before .before .before .before .before .before .before .before .before .pre .1) _ _ (c .before .before .before .before .before .before .step-at .ensures) (c .before .before .before .before .step5 .given .1) .step) (c .wrapping-mul .ensures)
 
 pub step-word-spec : {M : Type 1} → statement M
 step-word-spec =
     tie.close
     (tie.spec
-    operation-requires
-    argument-requires
+    step-at-requires
+    enum-known-step
     mul-result
     shared-slice-read-result
+    enum-known-step-2
+    enum-known-step-3
+    mul-wrapping-add-u64
+    shared-slice-read-wrapping-add-u64
+    mul-wrapping-add-u64-2
+    shared-slice-read-wrapping-add-u64-2
+    wrapping-add-u64-requires
+    enum-known-step-4
+    mul-wrapping-sub-u64
+    shared-slice-read-wrapping-sub-u64
+    mul-wrapping-sub-u64-2
+    shared-slice-read-wrapping-sub-u64-2
+    wrapping-sub-u64-requires
+    enum-known-step-5
+    mul-wrapping-mul
+    shared-slice-read-wrapping-mul
+    mul-wrapping-mul-2
+    shared-slice-read-wrapping-mul-2
+    wrapping-mul-requires
     returns
     returns-2
-    left-operand-requires
-    mul-left
-    shared-slice-read-left
-    right-operand-requires
-    mul-right
-    shared-slice-read-right
-    combine-requires
-    returns-3)
+    returns-3
+    returns-4
+    returns-5)

@@ -7,7 +7,7 @@ use lib.ListN.{take, drop}
 use borrow.Author.Needs.{needs}
 use denote.Ref.{now}
 use Rattle.sizes.specs.declared.Refusal.{Refusal}
-use Rattle.file.specs.File.{headLength, operationsOf}
+use Rattle.fields.specs.File.{headLength, operationsOf}
 use Rattle.file.specs.Check.{fileNumber}
 use Rattle.file.proofs.Number.{Head, head-passed, number-zero, refusal-number, stretch-accepted, stretch-refused}
 use Rattle.file.proofs.operations.Statement.{statement}

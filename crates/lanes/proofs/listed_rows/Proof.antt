@@ -8,9 +8,10 @@ use native.Mathlib.Decide.{ℕ-discrete}
 use native.Mathlib.Omega.{arith}
 use borrow.Author.Needs.{needs}
 use lib.ListN.{length, getD}
-use Rattle.file.specs.File.{sizesOf}
+use Rattle.fields.specs.File.{sizesOf}
 use Rattle.integers.specs.Modulo.{remainder}
-use Rattle.lanes.specs.Lanes.{Reads, Held, HeldTo, Beside, Listed, Rest, Stepped}
+use Rattle.dependence.specs.Dependence.{Beside, Listed, Rest}
+use Rattle.lanes.specs.Lanes.{Reads, Held, HeldTo, Stepped}
 use Rattle.lanes.proofs.Stepped.{held-kept, room-kept}
 use Rattle.lanes.proofs.listed_rows.Statement.{statement}
 use Rattle.lanes.proofs.listed_rows.Tie as tie

@@ -1,179 +1,219 @@
--- `lanes::step_row` meets its contract, by the operation of the step: an accepted file keeps an input's index below d and the operands of the
--- others before step k, where the rows hold their values.
+-- `lanes::step_row` meets its contract, by what the step is: an accepted file keeps an input's index below d and the operands of the others before
+-- step k, where the rows hold their values.
 -- Assumes nothing.
 use mathlib.Core.List.{List}
-use mathlib.Core.Path.{_≡_, sym, _∙_, ap}
-use Prim.Native.Nat.{ℕ, _*_, _%_, _^_, _≤_, _<_}
+use mathlib.Core.Path.{_≡_, refl, sym, _∙_, ap, subst}
+use Prim.Native.Nat.{ℕ, _%_, _^_, _<_}
 use native.Mathlib.Omega.{arith}
 use borrow.Author.Needs.{needs}
 use denote.Ref.{now}
-use lib.IntN.{ℤ, pos}
-use lib.ListN.{getD}
-use Rattle.evaluate.specs.Run.{combined}
-use Rattle.file.specs.Accepted.{Accepted}
-use Rattle.file.specs.File.{sizesOf, stepCount, operation, argument, leftOperand, rightOperand}
+use lib.IntN.{ℤ, pos, _*ℤ_}
+use Rattle.dependence.specs.Dependence.{valueAt}
+use Rattle.dependence.proofs.Values.{value-input, value-constant, value-sum, value-difference, value-product}
+use Rattle.fields.specs.File.{sizesOf}
+use Rattle.fields.specs.Steps.{stepAt}
+use Rattle.file.proofs.Accepted.{Is, is}
 use Rattle.integers.specs.Modulo.{remainder}
 use Rattle.integers.proofs.Remainder.{remainder-pos}
-use Rattle.rows.specs.Rows.{lane}
+use Rattle.rows.specs.Rows.{lane, Operands}
 use Rattle.rows.proofs.Writing.{before-row}
-use Rattle.lanes.specs.Lanes.{valueAt, Held, HeldTo}
+use Rattle.steps.specs.declared.Step.{Step}
+use Rattle.steps.specs.declared.Step.the-variants.{Input, Constant, Add, Subtract, Multiply}
+use Rattle.lanes.specs.Lanes.{StandsFor, Held, HeldTo, Room}
+use Rattle.lanes.proofs.Residues.{residue-sum, residue-difference}
 use Rattle.lanes.proofs.Stepped.{width-most}
-use Rattle.lanes.proofs.Values.{value-input, value-constant, value-combined}
 use Rattle.lanes.proofs.step_row.Statement.{statement}
 use Rattle.lanes.proofs.step_row.Tie as tie
 
--- what lane l of row k holds, by the operation of step k
-module _ (w : ℕ) (s x rows : List ℕ) (l k : ℕ) (h : k < stepCount s) where
+-- what lane l of row k holds: a number that is the value, or a word that stands for it
+module _ (w : ℕ) (s x rows : List ℕ) (l k : ℕ) where
   held-pos : (v : ℕ) → lane w rows k l ≡ v → valueAt s x k ≡ pos v → Held w s x rows l k
   held-pos v e q = ap (λ z. z % 2 ^ sizesOf s .m) e ∙ sym (remainder-pos v (2 ^ sizesOf s .m)) ∙ ap (λ z. remainder z (2 ^ sizesOf s .m)) (sym q)
 
-  held-input : operation s k ≡ 1 → lane w rows k l ≡ getD x (argument s k) 0 → Held w s x rows l k
-  held-input o e = held-pos _ e (value-input s x k h o)
+  held-word : (u : ℤ) → valueAt s x k ≡ u → (v : ℕ) → lane w rows k l ≡ v → StandsFor (sizesOf s .m) v u → Held w s x rows l k
+  held-word u q v e h = ap (λ z. z % 2 ^ sizesOf s .m) e ∙ h ∙ ap (λ z. remainder z (2 ^ sizesOf s .m)) (sym q)
 
-  held-constant : operation s k ≡ 2 → lane w rows k l ≡ argument s k → Held w s x rows l k
-  held-constant o e = held-pos _ e (value-constant s x k h o)
+  -- a product of rows that hold theirs, for a number m that is the file's
+  held-product :
+      (before : List ℕ) (a b m : ℕ) → m ≡ sizesOf s .m →
+      ((u v : ℤ) → StandsFor m (lane w before a l) u → StandsFor m (lane w before b l) v → StandsFor m (lane w rows k l) (u *ℤ v)) →
+      valueAt s x k ≡ valueAt s x a *ℤ valueAt s x b → Held w s x before l a → Held w s x before l b → Held w s x rows l k
+  held-product before a b m e written q left right =
+      held-word _ q _ refl
+      (subst (λ n. (u v : ℤ) → StandsFor n (lane w before a l) u → StandsFor n (lane w before b l) v → StandsFor n (lane w rows k l) (u *ℤ v)) e written
+      (valueAt s x a) (valueAt s x b) left right)
 
-  -- before are the rows before the step
-  held-combined :
-      (before : List ℕ) (op a b : ℕ) → Accepted s → op ≡ operation s k → 3 ≤ op → a ≡ leftOperand (argument s k) → b ≡ rightOperand (argument s k) →
-      ((u v : ℤ) → lane w before a l % 2 ^ sizesOf s .m ≡ remainder u (2 ^ sizesOf s .m) → lane w before b l % 2 ^ sizesOf s .m ≡ remainder v (2 ^ sizesOf s .m) →
-      lane w rows k l % 2 ^ sizesOf s .m ≡ remainder (combined op u v) (2 ^ sizesOf s .m)) →
-      HeldTo w s x before l k → Held w s x rows l k
-  held-combined before op a b sound eo low ea eb written held =
-      let low' : 3 ≤ operation s k = omega arith in
-      written (valueAt s x (leftOperand (argument s k))) (valueAt s x (rightOperand (argument s k)))
-      (ap (λ i. lane w before i l % 2 ^ sizesOf s .m) ea ∙ held _ (sound .leftBefore k h low'))
-      (ap (λ i. lane w before i l % 2 ^ sizesOf s .m) eb ∙ held _ (sound .rightBefore k h low'))
-      ∙ ap (λ o. remainder (combined o (valueAt s x (leftOperand (argument s k))) (valueAt s x (rightOperand (argument s k)))) (2 ^ sizesOf s .m)) eo
-      ∙ ap (λ z. remainder z (2 ^ sizesOf s .m)) (sym (value-combined s x k h sound low'))
+-- what a call on rows a and b asks, where both are before row k
+operands : {w : ℕ} {s : List ℕ} {n : ℕ} {inputs rows : List ℕ} (k a b : ℕ) → Room w s n inputs rows → k < n → (a < k) × (b < k) → Operands w rows k a b
+operands {w} {s} {n} k a b p h r =
+    record { left = r .0; right = r .1; lanes = width-most (p .width); room = omega (arith, p .stepRows, before-row w k n h) }
 
-operation-requires : tie.Need-operation-requires
-operation-requires c κs = search needs
+-- step k is what is read of it
+read : {w : ℕ} {s : List ℕ} {n : ℕ} {inputs rows : List ℕ} (k : ℕ) → Room w s n inputs rows → k < n → (t u : Step) → t ≡ stepAt s k → t ≡ u → Is s k u
+read k p h t u e q = is _ _ k (record { sound = p .sound; count = p .count }) h t u e q
 
-argument-requires : tie.Need-argument-requires
-argument-requires c κs = search needs
+input : (c : tie.After-step) → Is (now (c .before .before .before .before .before .before .args .file)) (c .before .before .before .before .before .before .args .k) (Input (c .step .given .0 .0))
+input c = read _ (c .before .before .before .before .before .before .pre .0) (c .before .before .before .before .before .before .pre .1 .0) _ _ (c .before .before .step-at .ensures) (c .step .given .1)
 
-shared-slice-read-combine-rows : tie.Need-shared-slice-read-combine-rows
-shared-slice-read-combine-rows c = search needs
+constant : (c : tie.After-step2) → Is (now (c .before .before .before .before .before .before .args .file)) (c .before .before .before .before .before .before .args .k) (Constant (c .step2 .given .0 .0))
+constant c = read _ (c .before .before .before .before .before .before .pre .0) (c .before .before .before .before .before .before .pre .1 .0) _ _ (c .before .before .step-at .ensures) (c .step2 .given .1)
 
-left-operand-requires : tie.Need-left-operand-requires
-left-operand-requires c κs = search needs
+sum : (c : tie.After-step3) → Is (now (c .before .before .before .before .before .before .args .file)) (c .before .before .before .before .before .before .args .k) (Add (c .step3 .given .0 .0) (c .step3 .given .0 .1 .0))
+sum c = read _ (c .before .before .before .before .before .before .pre .0) (c .before .before .before .before .before .before .pre .1 .0) _ _ (c .before .before .step-at .ensures) (c .step3 .given .1)
 
-right-operand-requires : tie.Need-right-operand-requires
-right-operand-requires c κs = search needs
+difference : (c : tie.After-step4) → Is (now (c .before .before .before .before .before .before .args .file)) (c .before .before .before .before .before .before .args .k) (Subtract (c .step4 .given .0 .0) (c .step4 .given .0 .1 .0))
+difference c = read _ (c .before .before .before .before .before .before .pre .0) (c .before .before .before .before .before .before .pre .1 .0) _ _ (c .before .before .step-at .ensures) (c .step4 .given .1)
 
-combine-rows-requires : tie.Need-combine-rows-requires
-unfolding sizesOf
-combine-rows-requires c κs =
-    let p = c .before .before .before .before .before .before .before .before .before .before .pre in
-    let s = now (c .before .before .before .before .before .before .before .before .before .before .args .file) in
-    let k = c .before .before .before .before .before .before .before .before .before .before .args .k in
-    let n = c .before .before .before .before .before .before .before .before .before .before .args .n in
-    let w = c .before .before .before .before .before .before .before .before .before .before .args .w in
-    let a = c .before .before .before .before .before .argument .ensures .0 in
-    let h : k < stepCount s = omega (arith, p .0 .count) in
-    let low : 3 ≤ operation s k = omega (arith, c .before .before .before .before .before .before .operation .ensures .0) in (
-      p .0 .sound .outputHigh,
-      record {
-        left = omega (arith, p .0 .sound .leftBefore k h low, c .before .left-operand .ensures .0, ap leftOperand a);
-        right = omega (arith, p .0 .sound .rightBefore k h low, c .right-operand .ensures .0, ap rightOperand a);
-        lanes = width-most (p .0 .width);
-        room = omega (arith, p .0 .stepRows, before-row w k n (p .1 .0));
-      },
-    )
+product : (c : tie.After-step5) → Is (now (c .before .before .before .before .before .before .args .file)) (c .before .before .before .before .before .before .args .k) (Multiply (c .step5 .given .0 .0) (c .step5 .given .0 .1 .0))
+product c = read _ (c .before .before .before .before .before .before .pre .0) (c .before .before .before .before .before .before .pre .1 .0) _ _ (c .before .before .step-at .ensures) (c .step5 .given .1)
 
-same-length : tie.Need-same-length
-same-length c = search needs
+step-at-requires : tie.Need-step-at-requires
+step-at-requires c κs = search needs
 
-returns : tie.Need-returns
-unfolding sizesOf
-returns c =
-    let p = c .before .before .before .before .before .before .before .before .before .before .before .before .before .pre in
-    let rows = now (c .before .before .before .before .before .before .before .before .before .before .before .before .before .args .rows) in
-    let called = c .before .before .combine-rows in
-    let a = c .before .before .before .before .before .before .before .before .argument .ensures .0 in
-    record {
-      row =
-          λ l x h reads held. held-combined _ _ x (called .last .1 .1 .0) l _ (omega (arith, p .0 .count)) rows _ _ _ (p .0 .sound)
-          (c .before .before .before .before .before .before .before .before .before .operation .ensures .0) (c .before .before .before .before .before .before .before .if1 .taken)
-          (c .before .before .before .before .left-operand .ensures .0 ∙ ap leftOperand a) (c .before .before .before .right-operand .ensures .0 ∙ ap rightOperand a)
-          (λ u v. called .ensures .row l u v h) held;
-      others = called .ensures .others;
-    }
+enum-known-step : tie.Need-enum-known-step
+enum-known-step c = search needs
 
 copy-row-requires : tie.Need-copy-row-requires
 copy-row-requires c κs =
-    let p = c .before .before .before .before .before .before .before .before .pre in
-    let k = c .before .before .before .before .before .before .before .before .args .k in
-    let o = sym (c .before .before .before .before .operation .ensures .0) ∙ c .before .if2 .taken in
-    let i = p .0 .sound .inputArgument k (omega (arith, p .0 .count)) o in
-    let e = c .before .before .before .before .before .before .before .before .args in
-    let s = now (e .file) in (
-      (width-most (p .0 .width), omega (arith, p .0 .inputRows, before-row (e .w) (argument s k) (sizesOf s .d) i, ap (λ j. e .w * j) (c .before .before .before .argument .ensures .0))),
-      omega (arith, p .0 .stepRows, before-row (e .w) k (e .n) (p .1 .0)),
+    let e = c .before .before .before .before .before .before .before .before in (
+      (width-most (e .pre .0 .width), omega (arith, e .pre .0 .inputRows, before-row (e .args .w) _ _ (input (c .before .before) .rule))),
+      omega (arith, e .pre .0 .stepRows, before-row (e .args .w) (e .args .k) (e .args .n) (e .pre .1 .0)),
     )
 
-same-length-2 : tie.Need-same-length-2
-same-length-2 c = search needs
-
-returns-2 : tie.Need-returns-2
-returns-2 c =
-    let p = c .before .before .before .before .before .before .before .before .before .before .before .pre in
-    let w = c .before .before .before .before .before .before .before .before .before .before .before .args .w in
-    let inputs = now (c .before .before .before .before .before .before .before .before .before .before .before .args .inputs) in
-    let k = c .before .before .before .before .before .before .before .before .before .before .before .args .k in
-    let called = c .before .before .copy-row in
-    let o = sym (c .before .before .before .before .before .before .before .operation .ensures .0) ∙ c .before .before .before .before .if2 .taken in
-    let h : k < stepCount (now (c .before .before .before .before .before .before .before .before .before .before .before .args .file)) = omega (arith, p .0 .count) in
-    record {
-      row =
-          λ l x b reads held. held-input _ _ x (called .last .1 .1 .0) l k h o
-          (called .ensures .row l b
-          ∙ ap (λ i. lane w inputs i l) (c .before .before .before .before .before .before .argument .ensures .0)
-          ∙ reads _ (p .0 .sound .inputArgument k h o));
-      others = called .ensures .others;
-    }
+enum-known-step-2 : tie.Need-enum-known-step-2
+enum-known-step-2 c = search needs
 
 fill-row-requires : tie.Need-fill-row-requires
 fill-row-requires c κs =
     let e = c .before .before .before .before .before .before .before .before in
     omega (arith, e .pre .0 .stepRows, before-row (e .args .w) (e .args .k) (e .args .n) (e .pre .1 .0))
 
+enum-known-step-3 : tie.Need-enum-known-step-3
+enum-known-step-3 c = search needs
+
+add-rows-requires : tie.Need-add-rows-requires
+add-rows-requires c κs = operands _ _ _ (c .before .before .before .before .before .before .before .before .pre .0) (c .before .before .before .before .before .before .before .before .pre .1 .0) (sum (c .before .before) .rule)
+
+enum-known-step-4 : tie.Need-enum-known-step-4
+enum-known-step-4 c = search needs
+
+subtract-rows-requires : tie.Need-subtract-rows-requires
+subtract-rows-requires c κs = operands _ _ _ (c .before .before .before .before .before .before .before .before .pre .0) (c .before .before .before .before .before .before .before .before .pre .1 .0) (difference (c .before .before) .rule)
+
+enum-known-step-5 : tie.Need-enum-known-step-5
+enum-known-step-5 c = search needs
+
+output-length-requires : tie.Need-output-length-requires
+output-length-requires c κs = search needs
+
+product-row-requires : tie.Need-product-row-requires
+product-row-requires c κs =
+    let e = c .before .before .before .before .before .before .before .before .before in
+    (omega (arith, c .before .output-length .ensures, e .pre .0 .sound .outputHigh), operands _ _ _ (e .pre .0) (e .pre .1 .0) (product (c .before .before .before) .rule))
+
+same-length : tie.Need-same-length
+same-length c = search needs
+
+returns : tie.Need-returns
+returns c =
+    let i = input (c .before .before .before .before .before) in
+    let called = c .before .before .copy-row .ensures in
+    let w = c .before .before .before .before .before .before .before .before .before .before .before .args .w in
+    let rows = c .before .before .copy-row .last .1 .1 .0 in
+    record {
+      row = λ l x b reads held. held-pos w _ x rows l _ _ (called .row l b ∙ reads _ (i .rule)) (value-input _ x _ (i .inside) _ (i .step));
+      others = called .others;
+    }
+
+same-length-2 : tie.Need-same-length-2
+same-length-2 c = search needs
+
+returns-2 : tie.Need-returns-2
+returns-2 c =
+    let i = constant (c .before .before .before .before .before) in
+    let called = c .before .before .fill-row .ensures in
+    let w = c .before .before .before .before .before .before .before .before .before .before .before .args .w in
+    let rows = c .before .before .fill-row .last .0 in
+    record {
+      row = λ l x b reads held. held-pos w _ x rows l _ _ (called .row l b) (value-constant _ x _ (i .inside) _ (i .step));
+      others = called .others;
+    }
+
 same-length-3 : tie.Need-same-length-3
 same-length-3 c = search needs
 
 returns-3 : tie.Need-returns-3
 returns-3 c =
-    let p = c .before .before .before .before .before .before .before .before .before .before .before .pre in
-    let s = now (c .before .before .before .before .before .before .before .before .before .before .before .args .file) in
-    let k = c .before .before .before .before .before .before .before .before .before .before .before .args .k in
-    let called = c .before .before .fill-row in
-    let h : k < stepCount s = omega (arith, p .0 .count) in
-    let op = c .before .before .before .before .before .before .before .operation .ensures .0 in
-    let o : operation s k ≡ 2 =
-    omega (arith, op, p .0 .sound .operationLow k h, c .before .before .before .before .before .if1 .left, c .before .before .before .before .if2 .left) in
+    let i = sum (c .before .before .before .before .before) in
+    let called = c .before .before .add-rows .ensures in
+    let w = c .before .before .before .before .before .before .before .before .before .before .before .args .w in
+    let rows = c .before .before .add-rows .last .0 in
+    let high = c .before .before .before .before .before .before .before .before .before .before .before .pre .0 .sound .outputHigh in
     record {
       row =
-          λ l x b reads held. held-constant _ s x (called .last .0) l k h o
-          (called .ensures .row l b ∙ c .before .before .before .before .before .before .argument .ensures .0);
-      others = called .ensures .others;
+          λ l x b reads held. held-word w _ x rows l _ _ (value-sum _ x _ (i .inside) _ _ (i .rule .0) (i .rule .1) (i .step)) _ (called .row l b)
+          (residue-sum _ _ _ _ _ (held _ (i .rule .0)) (held _ (i .rule .1)) high);
+      others = called .others;
+    }
+
+same-length-4 : tie.Need-same-length-4
+same-length-4 c = search needs
+
+returns-4 : tie.Need-returns-4
+returns-4 c =
+    let i = difference (c .before .before .before .before .before) in
+    let called = c .before .before .subtract-rows .ensures in
+    let w = c .before .before .before .before .before .before .before .before .before .before .before .args .w in
+    let rows = c .before .before .subtract-rows .last .0 in
+    let high = c .before .before .before .before .before .before .before .before .before .before .before .pre .0 .sound .outputHigh in
+    record {
+      row =
+          λ l x b reads held. held-word w _ x rows l _ _ (value-difference _ x _ (i .inside) _ _ (i .rule .0) (i .rule .1) (i .step)) _ (called .row l b)
+          (residue-difference _ _ _ _ _ (held _ (i .rule .0)) (held _ (i .rule .1)) high);
+      others = called .others;
+    }
+
+same-length-5 : tie.Need-same-length-5
+same-length-5 c = search needs
+
+returns-5 : tie.Need-returns-5
+returns-5 c =
+    let i = product (c .before .before .before .before .before .before) in
+    let called = c .before .before .product-row .ensures in
+    let before = now (c .before .before .before .before .before .before .before .before .before .before .before .before .args .rows) in
+    let w = c .before .before .before .before .before .before .before .before .before .before .before .before .args .w in
+    let rows = c .before .before .product-row .last .1 .0 in
+    let m = c .before .before .before .before .output-length .ensures in
+    record {
+      row =
+          λ l x b reads held. held-product w _ x rows l _ before _ _ _ m (λ u v. called .row l u v b)
+          (value-product _ x _ (i .inside) _ _ (i .rule .0) (i .rule .1) (i .step)) (held _ (i .rule .0)) (held _ (i .rule .1));
+      others = called .others;
     }
 
 pub step-row-spec : {M : Type 1} → statement M
 step-row-spec =
     tie.close
     (tie.spec
-    operation-requires
-    argument-requires
-    shared-slice-read-combine-rows
-    left-operand-requires
-    right-operand-requires
-    combine-rows-requires
+    step-at-requires
+    enum-known-step
+    copy-row-requires
+    enum-known-step-2
+    fill-row-requires
+    enum-known-step-3
+    add-rows-requires
+    enum-known-step-4
+    subtract-rows-requires
+    enum-known-step-5
+    output-length-requires
+    product-row-requires
     same-length
     returns
-    copy-row-requires
     same-length-2
     returns-2
-    fill-row-requires
     same-length-3
-    returns-3)
+    returns-3
+    same-length-4
+    returns-4
+    same-length-5
+    returns-5)

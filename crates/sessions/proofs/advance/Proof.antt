@@ -5,7 +5,7 @@ use Prim.Native.Nat.{_≤_}
 use native.Mathlib.Omega.{arith}
 use denote.Ref.{now}
 use Rattle.engine.specs.Engine.{outputsDiffer}
-use Rattle.file.specs.File.{sizesOf}
+use Rattle.fields.specs.File.{sizesOf}
 use Rattle.grid.specs.Grid.{gridOf, gridSize}
 use Rattle.grid.specs.declared.Grid.{Grid}
 use Rattle.search.proofs.Search.{first-low}

@@ -10,7 +10,7 @@ use Rattle.engine.specs.Engine.{largerCount}
 use Rattle.engine.proofs.Outputs.{output-held}
 use Rattle.engine.proofs.Prepared.{axes-read}
 use Rattle.evaluate.specs.Evaluate.{outputOf}
-use Rattle.file.specs.File.{sizesOf, stepCount}
+use Rattle.fields.specs.File.{sizesOf, stepCount}
 use Rattle.grid.specs.Grid.{axesOf, gridSize}
 use Rattle.lists.proofs.Lists.{drop-later}
 use Rattle.places.specs.Places.{vectorAt}

@@ -3,7 +3,7 @@
 use mathlib.Core.Path.{_≡_, sym, _∙_, ap, ap₂}
 use denote.Ref.{now}
 use Rattle.file.specs.Check.{fileNumber}
-use Rattle.file.specs.File.{sizesOf}
+use Rattle.fields.specs.File.{sizesOf}
 use Rattle.file.proofs.Accepted.{accepted}
 use Rattle.file.proofs.Number.{refusal-number}
 use Rattle.sizes.specs.declared.Refusal.{Refusal}

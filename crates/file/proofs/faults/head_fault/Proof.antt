@@ -7,7 +7,7 @@ use borrow.Author.Needs.{needs}
 use borrow.Author.Tests.{not-true, not-false}
 use denote.Ref.{now}
 use Rattle.sizes.specs.Sizes.{within, badOutput, badInputs, badWidths}
-use Rattle.file.specs.File.{sizesOf, stepCount}
+use Rattle.fields.specs.File.{sizesOf, stepCount}
 use Rattle.file.specs.Check.{maxSteps}
 use Rattle.file.proofs.Cases.{told, head-0, head-1, head-2, head-3, head-4, head-5, head-6}
 use Rattle.file.proofs.faults.head_fault.Statement.{statement}

@@ -6,7 +6,7 @@ use borrow.Author.Needs.{needs}
 use borrow.Author.Tests.{not-true, not-false}
 use denote.Ref.{now}
 use Rattle.sizes.specs.Sizes.{within}
-use Rattle.file.specs.File.{sizesOf, operation, argument}
+use Rattle.fields.specs.File.{sizesOf, operation, argument}
 use Rattle.file.specs.Check.{argumentRule}
 use Rattle.file.proofs.Cases.{told, step-0, step-7, step-8, rule-told}
 use Rattle.file.proofs.faults.step_fault.Statement.{statement}

@@ -1,0 +1,116 @@
+// The fields of a datapath file, read from its bytes, and its steps.
+use sizes::INPUTS;
+use sizes::Sizes;
+use steps::Step;
+use words::le16;
+use words::le64;
+ghost use mathlib.Core.Path.{_≡_};
+ghost use Prim.Native.Nat.{_+_, _*_, _^_, _≤_, _<_};
+ghost use lib.ListN.{length};
+ghost use Rattle.fields.specs.File.{
+  headLength,
+  sizesOf,
+  stepCount,
+  operation,
+  argument,
+  leftOperand,
+  rightOperand,
+};
+ghost use Rattle.fields.specs.Steps.{stepAt};
+
+// The bytes of the head, before the operation bytes.
+pub const HEAD: usize = 12;
+
+// The largest count of steps.
+pub const STEPS: usize = 1024;
+
+// Where the word lengths of the inputs begin.
+const WIDTHS: usize = 4;
+
+// m, d and the word lengths.
+pub fn read_sizes(file: &[u8]) -> Sizes
+    requires { ⌜ headLength ≤ length (now file) ⌝ }
+    ensures { λ r. ⌜ r ≡ sizesOf (now (file .entry)) ⌝ }
+{
+    let mut widths = [0u8; INPUTS];
+    let mut i = 0;
+    while i < INPUTS {
+        widths[i] = file[WIDTHS + i];
+        i += 1;
+    }
+    Sizes {
+        m: file[0],
+        d: file[1],
+        widths,
+    }
+}
+
+// m alone, the output word length.
+pub fn output_length(file: &[u8]) -> u64
+    requires { ⌜ headLength ≤ length (now file) ⌝ }
+    ensures { λ r. ⌜ r ≡ sizesOf (now (file .entry)) .m ⌝ }
+{
+    file[0] as u64
+}
+
+// N, the count of steps.
+pub fn step_count(file: &[u8]) -> usize
+    requires { ⌜ headLength ≤ length (now file) ⌝ }
+    ensures { λ r. ⌜ (r ≡ stepCount (now (file .entry))) × (r < 2 ^ 16) ⌝ }
+{
+    le16(file, 2) as usize
+}
+
+// The operation byte of step k.
+pub fn operation(file: &[u8], k: usize) -> u8
+    requires { ⌜ headLength + k < length (now file) ⌝ }
+    ensures { λ r. ⌜ (r ≡ operation (now (file .entry)) k) × (r < 2 ^ 8) ⌝ }
+{
+    file[HEAD + k]
+}
+
+// The argument of step k, given N.
+pub fn argument(file: &[u8], n: usize, k: usize) -> u64
+    requires { ⌜ (n ≡ stepCount (now file)) × (headLength + n + 8 * k + 8 ≤ length (now file)) ⌝ }
+    ensures { λ r. ⌜ (r ≡ argument (now (file .entry)) k) × (r < 2 ^ 64) ⌝ }
+{
+    le64(file, HEAD + n + 8 * k)
+}
+
+// Of an argument of 64 bits: the left step, in the low 16 bits.
+pub fn left_operand(a: u64) -> usize
+    ensures { λ r. ⌜ (r ≡ leftOperand a) × (r < 2 ^ 16) ⌝ }
+{
+    (a % 65536) as usize
+}
+
+// The right step, in the next 16 bits.
+pub fn right_operand(a: u64) -> usize
+    ensures { λ r. ⌜ (r ≡ rightOperand a) × (r < 2 ^ 16) ⌝ }
+{
+    (a / 65536 % 65536) as usize
+}
+
+// Step k, given N, decoded from its operation byte and its argument. An operation byte past 5, which no accepted file has, reads as 5.
+pub fn step_at(file: &[u8], n: usize, k: usize) -> Step
+    requires { ⌜ (n ≡ stepCount (now file)) × (headLength + n + 8 * k + 8 ≤ length (now file)) ⌝ }
+    ensures { λ r. ⌜ r ≡ stepAt (now (file .entry)) k ⌝ }
+{
+    let op = operation(file, k);
+    let a = argument(file, n, k);
+    if op == 1 {
+        return Step::Input(a as usize);
+    }
+    if op == 2 {
+        return Step::Constant(a);
+    }
+    let left = left_operand(a);
+    let right = right_operand(a);
+    if op == 3 {
+        return Step::Add(left, right);
+    }
+    if op == 4 {
+        return Step::Subtract(left, right);
+    }
+    Step::Multiply(left, right)
+}

@@ -1,42 +1,40 @@
 -- The vectors that are run are on the grid: those at its places are, by the digits of a place, and the zeros are, since each axis is at least 1. Lanes
 -- that are set to vectors of the grid are on it, with the others on it already.
 -- Assumes nothing.
-use mathlib.Core.Bool.{Bool}
 use mathlib.Core.List.{List}
 use mathlib.Core.Path.{_≡_, refl, ap}
 use Prim.Native.Nat.{ℕ, zero, suc, _+_, _≤_, _<_}
 use native.Mathlib.Decide.{decLt}
 use native.Mathlib.Omega.{arith}
-use lib.ListN.{length, getD, take, replicate, length-map, length-take, length-drop}
+use lib.ListN.{getD, take, replicate}
 use Rattle.file.specs.Accepted.{Accepted}
 use Rattle.fields.specs.File.{sizesOf}
-use Rattle.grid.specs.Grid.{widthsOf, axesOf}
-use Rattle.grid.proofs.Axes.{axes-most, size-least}
+use Rattle.grid.specs.Grid.{widthsOf, axesOf, gridSize}
+use Rattle.grid.proofs.Axes.{axes-most}
 use Rattle.lanes.specs.Lanes.{OnGrid, LanesOnGrid}
 use Rattle.places.specs.Places.{size, vectorAt}
 use Rattle.places.proofs.Places.{oneToOne}
+use Rattle.plan.specs.Plan.{Planned}
+use Rattle.plan.specs.declared.Plan.{Plan}
+use Rattle.plan.proofs.Axes.{length-axes, grid-some}
+use Rattle.plan.proofs.Numbers.{grid}
 use Rattle.sizes.specs.declared.Sizes.{Sizes}
 use Rattle.vectors.proofs.Digits.{below-at}
 use Rattle.batches.specs.Batch.{LanesSet}
-use Rattle.batches.specs.Prepared.{maxAxis, Prepared}
-
-pub length-axes : (s : List ℕ) → Accepted s → length (axesOf (sizesOf s)) ≡ sizesOf s .d
-unfolding axesOf sizesOf
-length-axes s a = simp (length-map, length-take, length-drop) (omega (arith, a .long, a .inputsHigh))
-
--- the grid has a vector
-pub grid-some : (s : List ℕ) → Accepted s → 0 < size (axesOf (sizesOf s))
-unfolding axesOf
-grid-some s a = size-least (sizesOf s .m) (a .outputLow) (a .outputHigh) (widthsOf (sizesOf s))
+use Rattle.batches.specs.Prepared.{maxAxis}
 
 -- the vector at a place
 pub place-on-grid : (s : List ℕ) → Accepted s → (p : ℕ) → p < size (axesOf (sizesOf s)) → OnGrid s (vectorAt (axesOf (sizesOf s)) p)
 place-on-grid s a p h i g =
     below-at (axesOf (sizesOf s)) (vectorAt (axesOf (sizesOf s)) p) i (oneToOne (axesOf (sizesOf s)) .below p h) (omega (arith, length-axes s a))
 
+grid-first : (s : List ℕ) → Accepted s → 0 < size (axesOf (sizesOf s))
+unfolding gridSize
+grid-first s a = grid-some s a
+
 -- each axis is at least 1
 pub axis-some : (s : List ℕ) → Accepted s → (i : ℕ) → i < sizesOf s .d → 0 < getD (axesOf (sizesOf s)) i 0
-axis-some s a i g = omega (arith, place-on-grid s a 0 (grid-some s a) i g)
+axis-some s a i g = omega (arith, place-on-grid s a 0 (grid-first s a) i g)
 
 -- and at most the largest
 pub axis-within : (s : List ℕ) → Accepted s → (i : ℕ) → getD (axesOf (sizesOf s)) i 0 ≤ maxAxis
@@ -56,14 +54,13 @@ pub same-grid : (w : ℕ) (s₁ s₂ inputs : List ℕ) → sizesOf s₁ ≡ siz
 same-grid w s₁ s₂ inputs e g = rw (← e) g
 
 pub lanes-on-grid :
-    {w : ℕ} {turn : Bool} {s₁ s₂ : List ℕ} {n₁ n₂ d : ℕ} {axes rows other : List ℕ} → Prepared w turn s₁ s₂ n₁ n₂ d axes rows other →
-    (p live : ℕ) (before after : List ℕ) → p + live ≤ size (take d axes) → LanesSet w (take d axes) p live before after → LanesOnGrid w s₁ before →
-    LanesOnGrid w s₁ after
-lanes-on-grid {s₁ = s₁} k p live before after inside w g i l h t =
+    {w : ℕ} {s₁ s₂ : List ℕ} {g : Plan} → Planned s₁ s₂ g → (p live : ℕ) (before after : List ℕ) → p + live ≤ size (take (g .d) (g .axes)) →
+    LanesSet w (take (g .d) (g .axes)) p live before after → LanesOnGrid w s₁ before → LanesOnGrid w s₁ after
+lanes-on-grid {s₁ = s₁} k p live before after inside w on i l h t =
     elim (decLt l live) [
       | yes set ↦
-          let place : p + l < size (axesOf (sizesOf s₁)) = omega (arith, ap size (k .grid)) in
-          rw (rw (k .grid) at (w .set i l (omega (arith, h, k .files .sound₁ .inputsHigh)) set))
+          let place : p + l < size (axesOf (sizesOf s₁)) = omega (arith, ap size (grid k)) in
+          rw (rw (grid k) at (w .set i l (omega (arith, h, k .files .sound₁ .inputsHigh)) set))
           (place-on-grid s₁ (k .files .sound₁) (p + l) place i h)
-      | no past ↦ rw (w .others i l (omega arith) t) (g i l h t)
+      | no past ↦ rw (w .others i l (omega arith) t) (on i l h t)
     ]

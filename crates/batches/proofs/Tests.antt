@@ -1,7 +1,7 @@
 -- The test in a lane is the test of the outputs at its vector, and over the grid's vector at a place the test at that place.
 -- Assumes nothing.
 use mathlib.Core.Path.{_≡_, sym, _∙_, ap, ap₂}
-use mathlib.Core.Bool.{Bool, not}
+use mathlib.Core.Bool.{not}
 use mathlib.Core.List.{List}
 use Prim.Native.Nat.{ℕ, _+_, _*_, _-_, _%_, _^_, _≤_, _<_}
 use native.Mathlib.Nat.{add-zero, mul-le-mul-left}
@@ -13,9 +13,13 @@ use Rattle.fields.specs.File.{sizesOf}
 use Rattle.fields.specs.Steps.{stepsOf}
 use Rattle.grid.specs.Grid.{axesOf}
 use Rattle.lanes.specs.Lanes.{Reads, HeldTo, Shown, Room}
-use Rattle.lanes.proofs.Values.{lane-output}
+use Rattle.lanes.proofs.Stepped.{lane-output}
 use Rattle.places.specs.Places.{vectorAt}
-use Rattle.rows.specs.Rows.{lane, unequal}
+use Rattle.plan.specs.Comparison.{outputsDiffer}
+use Rattle.plan.specs.declared.Plan.{Plan}
+use Rattle.plan.proofs.Numbers as plan
+use Rattle.row_lanes.specs.Lanes.{unequal}
+use Rattle.rows.specs.Rows.{lane}
 use Rattle.rows.proofs.Writing.{before-row}
 use Rattle.search.specs.Search.{first}
 use Rattle.search.proofs.Search.{first-shift}
@@ -23,8 +27,8 @@ use Rattle.sizes.specs.Sizes.{maxInputs}
 use Rattle.sizes.specs.declared.Sizes.{Sizes}
 use Rattle.steps.specs.Steps.{output}
 use Rattle.theorem.specs.Comparison.{differsAt}
-use Rattle.batches.specs.Comparison.{outputsDiffer}
 use Rattle.batches.specs.Prepared.{Prepared}
+use Rattle.batches.specs.declared.Shape.{Shape}
 
 pub output-test :
     (s₁ s₂ : List ℕ) (p : ℕ) → sizesOf s₁ ≡ sizesOf s₂ →
@@ -35,59 +39,67 @@ output-test s₁ s₂ p same =
     ap (λ (z : Sizes). not (eqb (outputOf s₁ x) (output (z .m) (stepsOf s₂) x))) (sym same)
 
 module _
-    {w : ℕ} {turn : Bool} {s₁ s₂ : List ℕ} {n₁ n₂ d : ℕ} {axes rows other : List ℕ} (k : Prepared w turn s₁ s₂ n₁ n₂ d axes rows other)
+    {v : Shape} {s₁ s₂ : List ℕ} {g : Plan} {rows other : List ℕ} (k : Prepared v s₁ s₂ g rows other)
   where
+    abbrev w : ℕ
+    w = v .w
+
+    abbrev n₁ : ℕ
+    n₁ = g .n1
+
+    abbrev n₂ : ℕ
+    n₂ = g .n2
+
+    abbrev d : ℕ
+    d = g .d
+
     -- row n - 1 is a row of any rows for n steps
     pub last₁ : w * (n₁ - 1) + w ≤ w * n₁
-    last₁ = before-row w (n₁ - 1) n₁ (omega (arith, k .count₁, k .files .sound₁ .countLow))
+    last₁ = before-row w (n₁ - 1) n₁ (omega (arith, plan.count₁ (k .planned), k .planned .files .sound₁ .countLow))
 
     pub last₂ : w * (n₂ - 1) + w ≤ w * n₂
-    last₂ = before-row w (n₂ - 1) n₂ (omega (arith, k .count₂, k .files .sound₂ .countLow))
+    last₂ = before-row w (n₂ - 1) n₂ (omega (arith, plan.count₂ (k .planned), k .planned .files .sound₂ .countLow))
 
     -- rows for all inputs that a file may have are rows for the d inputs
     pub inputs-room : (inputs : List ℕ) → w * maxInputs ≤ length inputs → w * d ≤ length inputs
     inputs-room inputs h =
-        let few : d ≤ maxInputs = omega (arith, k .inputs, k .files .sound₁ .inputsHigh) in
+        let few : d ≤ maxInputs = omega (arith, plan.inputs (k .planned), k .planned .files .sound₁ .inputsHigh) in
         omega (arith, mul-le-mul-left w few)
 
     pub room₁ : (inputs : List ℕ) → w * d ≤ length inputs → Room w s₁ n₁ inputs rows
-    room₁ inputs h = record { width = k .width; sound = k .files .sound₁; count = k .count₁; inputRows = rw (← k .inputs) h; stepRows = k .room₁ }
+    room₁ inputs h = record { width = k .width; sound = k .planned .files .sound₁; count = plan.count₁ (k .planned); inputRows = rw (← plan.inputs (k .planned)) h; stepRows = k .room₁ }
 
     -- in any rows with room for the steps of file 2
     pub room₂ : (inputs space : List ℕ) → w * d ≤ length inputs → w * n₂ ≤ length space → Room w s₂ n₂ inputs space
     room₂ inputs space h r =
         record {
           width = k .width;
-          sound = k .files .sound₂;
-          count = k .count₂;
-          inputRows = rw (← k .files .same, ← k .inputs) h;
+          sound = k .planned .files .sound₂;
+          count = plan.count₂ (k .planned);
+          inputRows = rw (← k .planned .files .same, ← plan.inputs (k .planned)) h;
           stepRows = r;
         }
 
     pub shown₁ : (space x : List ℕ) (l : ℕ) → HeldTo w s₁ x space l n₁ → Shown w s₁ x space l (n₁ - 1)
-    shown₁ space x l h = lane-output w s₁ x space l n₁ (k .count₁) (h (n₁ - 1) (omega (arith, k .count₁, k .files .sound₁ .countLow)))
+    shown₁ space x l h = lane-output w s₁ x space l n₁ (plan.count₁ (k .planned)) (h (n₁ - 1) (omega (arith, plan.count₁ (k .planned), k .planned .files .sound₁ .countLow)))
 
     pub shown₂ : (space x : List ℕ) (l : ℕ) → HeldTo w s₂ x space l n₂ → Shown w s₂ x space l (n₂ - 1)
-    shown₂ space x l h = lane-output w s₂ x space l n₂ (k .count₂) (h (n₂ - 1) (omega (arith, k .count₂, k .files .sound₂ .countLow)))
+    shown₂ space x l h = lane-output w s₂ x space l n₂ (plan.count₂ (k .planned)) (h (n₂ - 1) (omega (arith, plan.count₂ (k .planned), k .planned .files .sound₂ .countLow)))
 
     pub lane-test :
         (v u : List ℕ) (a b l : ℕ) (x : List ℕ) → Shown w s₁ x v l a → Shown w s₂ x u l b →
         unequal w (sizesOf s₁ .m) v a u b l ≡ not (eqb (outputOf s₁ x) (outputOf s₂ x))
     unfolding unequal
     lane-test v u a b l x h₁ h₂ =
-        ap₂ (λ p q. not (eqb p q)) h₁ (ap (λ (z : Sizes). lane w u b l % 2 ^ z .m) (k .files .same) ∙ h₂)
+        ap₂ (λ p q. not (eqb p q)) h₁ (ap (λ (z : Sizes). lane w u b l % 2 ^ z .m) (k .planned .files .same) ∙ h₂)
 
     -- the slices may be written, and keep their lengths
     pub prepared-kept :
-        (rows' other' : List ℕ) → length rows' ≡ length rows → length other' ≡ length other → Prepared w turn s₁ s₂ n₁ n₂ d axes rows' other'
+        (rows' other' : List ℕ) → length rows' ≡ length rows → length other' ≡ length other → Prepared v s₁ s₂ g rows' other'
     prepared-kept rows' other' e₁ e₂ =
         record {
           width = k .width;
-          files = k .files;
-          count₁ = k .count₁;
-          count₂ = k .count₂;
-          inputs = k .inputs;
-          grid = k .grid;
+          planned = k .planned;
           room₁ = rw e₁ (k .room₁);
           room₂ = λ t. rw e₂ (k .room₂ t);
           shared = λ t. rw e₁ (k .shared t);
@@ -97,7 +109,7 @@ module _
     -- lanes that hold the vectors from place p on, and rows a and b the outputs there: the first lane that differs is that of the first place
     pub batch-first :
         (inputs v u : List ℕ) (a b p live m r : ℕ) → m ≡ sizesOf s₁ .m → live ≤ w →
-        ((i l : ℕ) → i < maxInputs → l < live → lane w inputs i l ≡ getD (vectorAt (take d axes) (p + l)) i 0) →
+        ((i l : ℕ) → i < maxInputs → l < live → lane w inputs i l ≡ getD (vectorAt (take d (g .axes)) (p + l)) i 0) →
         ((l : ℕ) (x : List ℕ) → l < w → Reads w s₁ inputs l x → Shown w s₁ x v l a) →
         ((l : ℕ) (x : List ℕ) → l < w → Reads w s₂ inputs l x → Shown w s₂ x u l b) →
         r ≡ first (unequal w m v a u b) 0 live → p + r ≡ first (outputsDiffer s₁ s₂) p live
@@ -109,6 +121,6 @@ module _
         test : (l : ℕ) → l < live → unequal w (sizesOf s₁ .m) v a u b l ≡ outputsDiffer s₁ s₂ (p + l)
         test l h =
             let x = vectorAt (axesOf (sizesOf s₁)) (p + l) in
-            let reads₁ : Reads w s₁ inputs l x = λ i hi. rw (k .grid) at (columns i l (omega (arith, hi, k .files .sound₁ .inputsHigh)) h) in
-            lane-test v u a b l x (run₁ l x (omega arith) reads₁) (run₂ l x (omega arith) (λ i hi. reads₁ i (rw (k .files .same) hi)))
-            ∙ output-test s₁ s₂ (p + l) (k .files .same)
+            let reads₁ : Reads w s₁ inputs l x = λ i hi. rw (plan.grid (k .planned)) at (columns i l (omega (arith, hi, k .planned .files .sound₁ .inputsHigh)) h) in
+            lane-test v u a b l x (run₁ l x (omega arith) reads₁) (run₂ l x (omega arith) (λ i hi. reads₁ i (rw (k .planned .files .same) hi)))
+            ∙ output-test s₁ s₂ (p + l) (k .planned .files .same)

@@ -1,3 +1,2 @@
 pub mod Batch
-pub mod Comparison
 pub mod Prepared

@@ -1,25 +1,40 @@
-// Two comparable files compared in batches of 16 or 8 consecutive places of the grid, a lane for each, across its rows.
+// Two comparable files compared in batches of consecutive places of the grid, a lane for each.
 use lanes::run_all;
+use plan::Plan;
+use row_lanes::first_unequal;
+use row_lanes::set_column;
+use rows::LANES;
 use rows::copy_row;
-use rows::first_unequal;
-use rows::set_column;
+use sizes::INPUTS;
 use vectors::next_vector;
 use vectors::vector_at;
-ghost use mathlib.Core.Path.{_≡_};
-ghost use Prim.Native.Nat.{_+_, _*_, _-_, _≤_};
-ghost use lib.ListN.{length, take};
+ghost use Prim.Native.Nat.{_≤_};
+ghost use lib.ListN.{take};
 ghost use Rattle.lanes.specs.Lanes.{LanesOnGrid};
 ghost use Rattle.places.specs.Places.{size};
-ghost use Rattle.search.specs.Search.{first};
+ghost use Rattle.plan.specs.Comparison.{Found};
 ghost use Rattle.sizes.specs.Sizes.{maxInputs};
-ghost use Rattle.batches.specs.Batch.{LanesSet, BatchRun};
-ghost use Rattle.batches.specs.Comparison.{outputsDiffer};
+ghost use Rattle.batches.specs.Batch.{Live, LanesSet, BatchRun};
 ghost use Rattle.batches.specs.Prepared.{Prepared};
+
+// How two files are run in lanes: the lanes of a row, and whether the files are run in turn in the same rows or have rows of their own each.
+pub struct Shape {
+    pub w: usize,
+    pub turn: bool,
+}
 
 // The first `live` lanes of the input rows become the vectors from place p on, of the grid with the first d of the axes. The other lanes stay as they
 // were.
-pub fn set_lanes(inputs: &mut [u64], axes: [u64; 8], d: usize, p: u64, live: usize, w: usize)
-    requires { ⌜ (d ≤ maxInputs) × (w * maxInputs ≤ length (now inputs)) × (1 ≤ live) × (live ≤ w) × (p + live ≤ size (take d axes)) ⌝ }
+pub fn set_lanes(
+    inputs: &mut [u64],
+    axes: [u64; INPUTS],
+    d: usize,
+    p: u64,
+    live: usize,
+    w: usize,
+)
+    requires { ⌜ d ≤ maxInputs ⌝ }
+    requires { ⌜ Live w (take d axes) p live (now inputs) ⌝ }
     ensures { λ _. ⌜ LanesSet w (take d axes) p live (now (inputs .entry)) (now (inputs .exit)) ⌝ }
 {
     let mut v = vector_at(axes, d, p);
@@ -37,28 +52,28 @@ pub fn set_lanes(inputs: &mut [u64], axes: [u64; 8], d: usize, p: u64, live: usi
 // the live ones hold a vector of the grid too, before and after. In turn, the output row of file 1 is saved before file 2 is run in the same rows.
 fn first_in_batch(
     file1: &[u8],
-    n1: usize,
     file2: &[u8],
-    n2: usize,
-    axes: [u64; 8],
-    d: usize,
+    plan: Plan,
+    shape: Shape,
     p: u64,
     live: usize,
     inputs: &mut [u64],
     rows: &mut [u64],
     other: &mut [u64],
-    turn: bool,
-    w: usize,
 ) -> usize
-    requires { ⌜ Prepared w turn (now file1) (now file2) n1 n2 d axes (now rows) (now other) ⌝ }
-    requires { ⌜ (w * maxInputs ≤ length (now inputs)) × (1 ≤ live) × (live ≤ w) × (p + live ≤ size (take d axes)) ⌝ }
-    requires { ⌜ LanesOnGrid w (now file1) (now inputs) ⌝ }
-    ensures { λ r. ⌜ BatchRun w (now (file1 .entry)) (now (file2 .entry)) p live (now (inputs .exit)) r ⌝ }
+    requires { ⌜ Prepared shape (now file1) (now file2) plan (now rows) (now other) ⌝ }
+    requires { ⌜ Live (shape .w) (take (plan .d) (plan .axes)) p live (now inputs) ⌝ }
+    requires { ⌜ LanesOnGrid (shape .w) (now file1) (now inputs) ⌝ }
+    ensures { λ r. ⌜ BatchRun (shape .w) (now (file1 .entry)) (now (file2 .entry)) p live (now (inputs .exit)) r ⌝ }
 {
-    set_lanes(inputs, axes, d, p, live, w);
+    let w = shape.w;
+    let m = plan.m;
+    let n1 = plan.n1;
+    let n2 = plan.n2;
+    let axes = plan.axes;
+    set_lanes(inputs, axes, plan.d, p, live, w);
     run_all(file1, n1, inputs, rows, w);
-    let m = file1[0] as u64;
-    if turn {
+    if shape.turn {
         copy_row(rows, n1 - 1, other, 0, w);
         run_all(file2, n2, inputs, rows, w);
         return first_unequal(other, 0, rows, n2 - 1, m, live, w);
@@ -70,42 +85,34 @@ fn first_in_batch(
 // The first place from `from` to before `end` at which the outputs differ, or `end` where there is none.
 pub fn by_batches(
     file1: &[u8],
-    n1: usize,
     file2: &[u8],
-    n2: usize,
-    axes: [u64; 8],
-    d: usize,
+    plan: Plan,
+    shape: Shape,
     from: u64,
     end: u64,
     rows: &mut [u64],
     other: &mut [u64],
-    turn: bool,
-    w: usize,
 ) -> u64
-    requires { ⌜ Prepared w turn (now file1) (now file2) n1 n2 d axes (now rows) (now other) ⌝ }
-    requires { ⌜ (from ≤ end) × (end ≤ size (take d axes)) ⌝ }
-    ensures { λ r. ⌜ r ≡ first (outputsDiffer (now (file1 .entry)) (now (file2 .entry))) from (end - from) ⌝ }
+    requires { ⌜ Prepared shape (now file1) (now file2) plan (now rows) (now other) ⌝ }
+    requires { ⌜ (from ≤ end) × (end ≤ size (take (plan .d) (plan .axes))) ⌝ }
+    ensures { λ r. ⌜ Found (now (file1 .entry)) (now (file2 .entry)) from end r ⌝ }
 {
-    let mut inputs = [0u64; 128];
-    let wide = w as u64;
+    let mut inputs = [0u64; LANES * INPUTS];
+    let wide = shape.w as u64;
     let mut p = from;
     while p < end {
         let rest = end - p;
         let live = if rest < wide { rest } else { wide };
         let l = first_in_batch(
             file1,
-            n1,
             file2,
-            n2,
-            axes,
-            d,
+            plan,
+            shape,
             p,
             live as usize,
             &mut inputs,
             rows,
             other,
-            turn,
-            w,
         ) as u64;
         p += l;
         if l < live {

@@ -1,15 +1,16 @@
 // The grid of given sizes: its axes and its size.
 use bound::bound;
+use sizes::INPUTS;
 use sizes::Sizes;
 ghost use mathlib.Core.Path.{_≡_};
 ghost use Prim.Native.Nat.{_≤_};
 ghost use Rattle.bound.specs.Axes.{axis};
-ghost use Rattle.sizes.specs.Sizes.{maxInputs};
+ghost use Rattle.sizes.specs.Sizes.{Sound};
 ghost use Rattle.grid.specs.Grid.{gridOf};
 
 // The axes, 0 past the last input, and the count of vectors.
 pub struct Grid {
-    pub axes: [u64; 8],
+    pub axes: [u64; INPUTS],
     pub size: u64,
 }
 
@@ -26,16 +27,15 @@ fn axis(m: u64, n: u64) -> u64
     if all < most { all } else { most }
 }
 
-// The grid of sizes with m from 1 to 64 and at most 8 inputs: each axis is the smaller of 2^n and L(m), and the size is their product.
+// The grid of sizes with m from 1 to 64 and at most INPUTS inputs: each axis is the smaller of 2^n and L(m), and the size is their product.
 pub fn grid_of(z: Sizes) -> Grid
-    requires { ⌜ (1 ≤ z .m) × (z .m ≤ 64) ⌝ }
-    requires { ⌜ z .d ≤ maxInputs ⌝ }
+    requires { ⌜ Sound z ⌝ }
     ensures { λ r. ⌜ r ≡ gridOf z ⌝ }
 {
     let m = z.m as u64;
     let d = z.d as usize;
     let widths = z.widths;
-    let mut axes = [0u64; 8];
+    let mut axes = [0u64; INPUTS];
     let mut size: u64 = 1;
     let mut i = 0;
     while i < d {

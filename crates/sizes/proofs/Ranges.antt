@@ -9,7 +9,7 @@ use lib.ListN.{getD}
 use borrow.Author.Tests.{leb-true, lt-ltb, le-ltb, eqb-true, not-false}
 use Rattle.search.proofs.Search.{every-at}
 use Rattle.sizes.specs.declared.Sizes.{Sizes}
-use Rattle.sizes.specs.Sizes.{within, maxInputs, badOutput, badInputs, badWidths, widthRule}
+use Rattle.sizes.specs.Sizes.{within, maxInputs, badOutput, badInputs, badWidths, widthRule, Sound}
 
 pub within-range : (low high n : ℕ) → within low high n ≡ true → (low ≤ n) × (n ≤ high)
 within-range low high n e =
@@ -24,6 +24,9 @@ module _ (z : Sizes) where
   pub inputs-range : badInputs z ≡ false → (1 ≤ z .d) × (z .d ≤ maxInputs)
   unfolding badInputs
   inputs-range e = within-range 1 maxInputs (z .d) (not-false _ e)
+
+  pub sound : badOutput z ≡ false → badInputs z ≡ false → Sound z
+  sound o i = (output-range o, inputs-range i .1)
 
   -- the rule of word length i, by its place
   pub rule-used : (i : ℕ) → i < z .d → widthRule z i ≡ within 1 64 (getD (z .widths) i 0)

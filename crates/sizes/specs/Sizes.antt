@@ -5,8 +5,9 @@
 --   refusedBy k  the refusal under the number k that shows no file and no step
 --   accepted     acceptance: number 0
 --   maxInputs    the largest count of inputs, which is also the count of word-length bytes
+--   Sound z      m is 1 to 64, and d is at most maxInputs: what a grid asks
 use mathlib.Core.Bool.{Bool, not, cond, _&&_}
-use Prim.Native.Nat.{ℕ}
+use Prim.Native.Nat.{ℕ, _≤_}
 use lib.Dec.{leb, ltb, eqb}
 use lib.ListN.{getD}
 use Rattle.search.specs.Search.{every}
@@ -31,6 +32,9 @@ widthRule z i = cond (ltb i (z .d)) (within 1 64 (getD (z .widths) i 0)) (eqb (g
 
 unfoldable pub badWidths : Sizes → Bool
 badWidths z = not (every (widthRule z) 0 maxInputs)
+
+abbrev pub Sound : Sizes → Type 0
+Sound z = ((1 ≤ z .m) × (z .m ≤ 64)) × (z .d ≤ maxInputs)
 
 abbrev pub refusedBy : ℕ → Refusal
 refusedBy k = record { number = k; file = 0; step = 0 }

@@ -5,30 +5,34 @@ use mathlib.Core.Bool.{Bool}
 use mathlib.Core.List.{List}
 use mathlib.Core.Logic.{_⊎_, ⊎-elim}
 use mathlib.Core.Path.{_≡_, refl, sym, _∙_}
-use Prim.Native.Nat.{ℕ, _+_, _-_, _≤_, _<_}
+use Prim.Native.Nat.{ℕ, _+_, _*_, _-_, _≤_, _<_}
 use native.Mathlib.Omega.{arith}
 use borrow.Author.Needs.{needs}
 use lib.ListN.{length, take}
 use Rattle.lanes.specs.Lanes.{LanesOnGrid}
 use Rattle.lanes.proofs.Stepped.{width-most, width-least}
 use Rattle.places.specs.Places.{size}
+use Rattle.plan.specs.Comparison.{outputsDiffer}
+use Rattle.plan.specs.declared.Plan.{Plan}
+use Rattle.rows.specs.Rows.{maxLanes}
 use Rattle.search.specs.Search.{first}
 use Rattle.search.proofs.Search.{first-high, first-before, first-end, first-past, first-part}
-use Rattle.batches.specs.Comparison.{outputsDiffer}
+use Rattle.sizes.specs.Sizes.{maxInputs}
 use Rattle.batches.specs.Prepared.{Prepared}
+use Rattle.batches.specs.declared.Shape.{Shape}
 use Rattle.batches.proofs.OnGrid.{zeros-on-grid}
 use Rattle.batches.proofs.Tests.{prepared-kept}
 use Rattle.batches.proofs.by_batches.Statement.{statement}
 use Rattle.batches.proofs.by_batches.Tie as tie
 
-record Passed (w : ℕ) (turn : Bool) (s₁ s₂ : List ℕ) (n₁ n₂ d : ℕ) (axes : List ℕ) (from end : ℕ) (rows₁₀ rows₂₀ rows₁ rows₂ inputs : List ℕ) (p : ℕ) : Type 0 where
-  prepared : Prepared w turn s₁ s₂ n₁ n₂ d axes rows₁ rows₂
+record Passed (v : Shape) (s₁ s₂ : List ℕ) (g : Plan) (from end : ℕ) (rows₁₀ rows₂₀ rows₁ rows₂ inputs : List ℕ) (p : ℕ) : Type 0 where
+  prepared : Prepared v s₁ s₂ g rows₁ rows₂
   long₁ : length rows₁ ≡ length rows₁₀
   long₂ : length rows₂ ≡ length rows₂₀
-  lanes : length inputs ≡ 128
-  onGrid : LanesOnGrid w s₁ inputs
+  lanes : length inputs ≡ maxLanes * maxInputs
+  onGrid : LanesOnGrid (v .w) s₁ inputs
   within : p ≤ end
-  inside : end ≤ size (take d axes)
+  inside : end ≤ size (take (g .d) (g .axes))
   same : first (outputsDiffer s₁ s₂) from (end - from) ≡ first (outputsDiffer s₁ s₂) p (end - p)
 
 -- the lanes of a batch that starts at p
@@ -38,8 +42,8 @@ record Batch (w p end live : ℕ) : Type 0 where
   part : p + live ≤ end
 
 module _
-    {w : ℕ} {turn : Bool} {s₁ s₂ : List ℕ} {n₁ n₂ d : ℕ} {axes : List ℕ} {from end : ℕ} {rows₁₀ rows₂₀ rows₁ rows₂ inputs : List ℕ} {p : ℕ}
-    (k : Passed w turn s₁ s₂ n₁ n₂ d axes from end rows₁₀ rows₂₀ rows₁ rows₂ inputs p)
+    {v : Shape} {s₁ s₂ : List ℕ} {g : Plan} {from end : ℕ} {rows₁₀ rows₂₀ rows₁ rows₂ inputs : List ℕ} {p : ℕ}
+    (k : Passed v s₁ s₂ g from end rows₁₀ rows₂₀ rows₁ rows₂ inputs p)
   where
     abbrev f : ℕ → Bool
     f = outputsDiffer s₁ s₂
@@ -47,7 +51,7 @@ module _
     finished : end ≤ p → p ≡ first f from (end - from)
     finished h = sym (k .same ∙ first-end f p end h)
 
-    module _ {live : ℕ} (l : ℕ) (b : Batch w p end live) (e : p + l ≡ first f p live) where
+    module _ {live : ℕ} (l : ℕ) (b : Batch (v .w) p end live) (e : p + l ≡ first f p live) where
       short : p + l ≤ end
       short = omega (arith, e, first-high f p live, b .part)
 
@@ -56,27 +60,27 @@ module _
 
       more :
           (rows₁' rows₂' inputs' : List ℕ) → length rows₁' ≡ length rows₁ → length rows₂' ≡ length rows₂ → length inputs' ≡ length inputs →
-          LanesOnGrid w s₁ inputs' → live ≤ l → Passed w turn s₁ s₂ n₁ n₂ d axes from end rows₁₀ rows₂₀ rows₁' rows₂' inputs' (p + l)
-      more rows₁' rows₂' inputs' e₁ e₂ e₃ g h =
+          LanesOnGrid (v .w) s₁ inputs' → live ≤ l → Passed v s₁ s₂ g from end rows₁₀ rows₂₀ rows₁' rows₂' inputs' (p + l)
+      more rows₁' rows₂' inputs' e₁ e₂ e₃ on h =
           record {
             prepared = prepared-kept (k .prepared) rows₁' rows₂' e₁ e₂;
             long₁ = e₁ ∙ k .long₁;
             long₂ = e₂ ∙ k .long₂;
             lanes = e₃ ∙ k .lanes;
-            onGrid = g;
+            onGrid = on;
             within = short;
             inside = k .inside;
             same = k .same ∙ first-past f p (p + l) end (omega arith) short (λ i low high. first-before f p live i low (omega (arith, e)));
           }
 
 abbrev Inv-loop : tie.InvT-loop
-Inv-loop file1 n1 file2 n2 axes d from end rows1₀ rows2₀ turn w inputs₀ wide p₀ rows1 rows2 inputs p =
-    Passed w turn file1 file2 n1 n2 d axes from end rows1₀ rows2₀ rows1 rows2 inputs p
+Inv-loop file1 file2 plan shape from end rows1₀ rows2₀ inputs₀ wide p₀ rows1 rows2 inputs p =
+    Passed shape file1 file2 plan from end rows1₀ rows2₀ rows1 rows2 inputs p
 
 abbrev μ-loop : tie.MeasureT-loop
-μ-loop file1 n1 file2 n2 axes d from end rows1₀ rows2₀ turn w inputs₀ wide p₀ rows1 rows2 inputs p = end - p
+μ-loop file1 file2 plan shape from end rows1₀ rows2₀ inputs₀ wide p₀ rows1 rows2 inputs p = end - p
 
-batch : (c : tie.Joined1 Inv-loop μ-loop) → Batch (c .before .before .before .before .before .before .before .args .w) (c .before .before .loop .p) (c .before .before .before .before .before .before .before .args .end) (c .if1 .live)
+batch : (c : tie.Joined1 Inv-loop μ-loop) → Batch (c .before .before .before .before .before .before .before .args .shape .w) (c .before .before .loop .p) (c .before .before .before .before .before .before .before .args .end) (c .if1 .live)
 batch c =
     let least = width-least (c .before .before .loop .inv .prepared .width) in
     ⊎-elim
@@ -87,7 +91,7 @@ batch c =
 loop-holds : tie.Need-loop-holds Inv-loop μ-loop
 loop-holds c =
     let q = c .before .before .before .before .pre in
-    record { prepared = q .0; long₁ = refl; long₂ = refl; lanes = refl; onGrid = zeros-on-grid _ (q .0 .files .sound₁) _ 128; within = q .1 .0; inside = q .1 .1; same = refl }
+    record { prepared = q .0; long₁ = refl; long₂ = refl; lanes = refl; onGrid = zeros-on-grid _ (q .0 .planned .files .sound₁) _ (maxLanes * maxInputs); within = q .1 .0; inside = q .1 .1; same = refl }
 
 sub-rest : tie.Need-sub-rest Inv-loop μ-loop
 sub-rest c = search needs
@@ -99,16 +103,18 @@ first-in-batch-requires : tie.Need-first-in-batch-requires Inv-loop μ-loop
 first-in-batch-requires c κs =
     let k = c .before .before .before .before .before .loop .inv in
     let b = batch (c .before .before .before) in
-    (k .prepared, ((omega (arith, k .lanes, width-most (k .prepared .width)), b .some, b .room, omega (arith, b .part, k .inside)), k .onGrid))
+    (k .prepared,
+    (record { room = omega (arith, k .lanes, width-most (k .prepared .width)); some = b .some; few = b .room; inside = omega (arith, b .part, k .inside) },
+    k .onGrid))
 
 add-p : tie.Need-add-p Inv-loop μ-loop
 add-p c = omega (arith, short (c .before .before .before .before .before .before .before .before .before .before .before .loop .inv) _ (batch (c .before .before .before .before .before .before .before .before .before)) (c .before .before .before .before .before .first-in-batch .ensures .found))
 
 same-length : tie.Need-same-length Inv-loop μ-loop
-same-length c = c .before .before .before .before .before .before .first-in-batch .kept .1 .1 .1 .1 .1 .1 .1 .1 .1 .0 ∙ c .before .before .before .before .before .before .before .before .before .before .before .before .loop .inv .long₁
+same-length c = c .before .before .before .before .before .before .first-in-batch .kept .1 .1 .1 .1 .1 .1 .1 .0 ∙ c .before .before .before .before .before .before .before .before .before .before .before .before .loop .inv .long₁
 
 same-length-2 : tie.Need-same-length-2 Inv-loop μ-loop
-same-length-2 c = c .before .before .before .before .before .before .first-in-batch .kept .1 .1 .1 .1 .1 .1 .1 .1 .1 .1 .0 ∙ c .before .before .before .before .before .before .before .before .before .before .before .before .loop .inv .long₂
+same-length-2 c = c .before .before .before .before .before .before .first-in-batch .kept .1 .1 .1 .1 .1 .1 .1 .1 .0 ∙ c .before .before .before .before .before .before .before .before .before .before .before .before .loop .inv .long₂
 
 returns : tie.Need-returns Inv-loop μ-loop
 returns c = found (c .before .before .before .before .before .before .before .before .before .before .before .before .loop .inv) _ (batch (c .before .before .before .before .before .before .before .before .before .before)) (c .before .before .before .before .before .before .first-in-batch .ensures .found) (c .if2 .taken)
@@ -126,8 +132,8 @@ loop-less c =
 loop-again : tie.Need-loop-again Inv-loop μ-loop
 loop-again c =
     let called = c .before .before .before .before .before .before .first-in-batch in
-    more (c .before .before .before .before .before .before .before .before .before .before .before .before .loop .inv) _ (batch (c .before .before .before .before .before .before .before .before .before .before)) (called .ensures .found) _ _ _ (called .kept .1 .1 .1 .1 .1 .1 .1 .1 .1 .0)
-    (called .kept .1 .1 .1 .1 .1 .1 .1 .1 .1 .1 .0) (called .kept .1 .1 .1 .1 .1 .1 .1 .1 .0) (called .ensures .onGrid) (c .if2 .left)
+    more (c .before .before .before .before .before .before .before .before .before .before .before .before .loop .inv) _ (batch (c .before .before .before .before .before .before .before .before .before .before)) (called .ensures .found) _ _ _ (called .kept .1 .1 .1 .1 .1 .1 .1 .0)
+    (called .kept .1 .1 .1 .1 .1 .1 .1 .1 .0) (called .kept .1 .1 .1 .1 .1 .1 .0) (called .ensures .onGrid) (c .if2 .left)
 
 same-length-3 : tie.Need-same-length-3 Inv-loop μ-loop
 same-length-3 c = c .before .loop .inv .long₁

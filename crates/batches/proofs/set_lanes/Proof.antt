@@ -62,7 +62,7 @@ abbrev μ-loop : tie.MeasureT-loop
 vector-at-requires : tie.Need-vector-at-requires Inv-loop μ-loop
 vector-at-requires c κs =
     let q = c .before .pre in
-    (q .0, omega (arith, q .2, q .4))
+    (q .0, omega (arith, q .1 .some, q .1 .inside))
 
 set-column-requires : tie.Need-set-column-requires Inv-loop μ-loop
 set-column-requires c κs = search needs
@@ -71,7 +71,7 @@ loop-holds : tie.Need-loop-holds Inv-loop μ-loop
 loop-holds c =
     let q = c .before .before .before .before .before .before .pre in
     let set = c .before .before .set-column .ensures in
-    start _ _ _ _ _ _ _ refl (q .3) (now (c .before .before .before .before .before .before .args .inputs)) (q .2)
+    start _ _ _ _ _ _ _ refl (q .1 .few) (now (c .before .before .before .before .before .before .args .inputs)) (q .1 .some)
     (c .before .before .before .before .vector-at .ensures) (set .set) (set .others) (λ i k hl hk. refl)
 
 next-vector-requires : tie.Need-next-vector-requires Inv-loop μ-loop
@@ -79,14 +79,14 @@ next-vector-requires c κs =
     let q = c .before .before .before .before .before .before .before .before .pre in
     let k = c .before .loop .inv in
     let p = c .before .before .before .before .before .before .before .before .args .p in
-    (q .0, record { place = p + (c .before .loop .l - 1); inside = omega (arith, q .4, k .within, k .some); shape = k .vector })
+    (q .0, record { place = p + (c .before .loop .l - 1); inside = omega (arith, q .1 .inside, k .within, k .some); shape = k .vector })
 
 set-column-requires-2 : tie.Need-set-column-requires-2 Inv-loop μ-loop
 set-column-requires-2 c κs =
     let q = c .before .before .before .before .before .before .before .before .before .before .pre in
     let k = c .before .before .before .loop .inv in (
-      omega (arith, q .3, c .before .before .loop-test .taken),
-      omega (arith, q .1, k .long, c .before .before .before .before .before .before .set-column .kept .0),
+      omega (arith, q .1 .few, c .before .before .loop-test .taken),
+      omega (arith, q .1 .room, k .long, c .before .before .before .before .before .before .set-column .kept .0),
     )
 
 add-l : tie.Need-add-l Inv-loop μ-loop
@@ -103,8 +103,8 @@ loop-again c =
     let t = c .before .before .before .before .before .loop-test .taken in
     let p = c .before .before .before .before .before .before .before .before .before .before .before .before .before .args .p in
     let l = c .before .before .before .before .before .before .loop .l in
-    more _ _ _ _ _ _ _ (set .kept .0 ∙ k .long) (q .3) (c .before .before .before .before .before .before .loop .inputs) l (p + (l - 1) + 1) t
-    (c .before .before .before .before .next-vector .ensures (p + (l - 1)) (omega (arith, q .4, t, k .some)) (k .vector)) (omega (arith, k .some))
+    more _ _ _ _ _ _ _ (set .kept .0 ∙ k .long) (q .1 .few) (c .before .before .before .before .before .before .loop .inputs) l (p + (l - 1) + 1) t
+    (c .before .before .before .before .next-vector .ensures (p + (l - 1)) (omega (arith, q .1 .inside, t, k .some)) (k .vector)) (omega (arith, k .some))
     (set .ensures .set) (set .ensures .others) (k .columns)
     (λ i j hl hj. set .ensures .others i j hj (λ same. omega (arith, hl, same)) ∙ k .others i j (omega (arith, hl)) hj)
 

@@ -15,9 +15,11 @@ use Rattle.evaluate.specs.Evaluate.{outputOf}
 use Rattle.fields.specs.File.{sizesOf}
 use Rattle.grid.specs.Grid.{axesOf}
 use Rattle.lanes.specs.Lanes.{Shown}
+use Rattle.plan.proofs.Numbers as plan
 use Rattle.rows.specs.Rows.{lane}
 use Rattle.sizes.specs.declared.Sizes.{Sizes}
-use Rattle.blocks.proofs.Along.{axis-at}
+use Rattle.blocks.specs.Block.{lastAxis}
+use Rattle.blocks.proofs.Lines.{axis-at}
 use Rattle.blocks.proofs.agreeing_in_turn.Statement.{statement}
 use Rattle.blocks.proofs.agreeing_in_turn.Tie as tie
 
@@ -28,47 +30,47 @@ both-shown w s₁ s₂ x saved l t same h₁ h₂ = sym h₁ ∙ ap (λ (z : Siz
 
 -- the places: the entry, and the call that saves the outputs
 abbrev entry : tie.After-save-outputs → tie.Start
-entry c = c .before .before .before .before .before .before .before .before .before .before .before
+entry c = c .before .before .before .before .before .before .before .before .before .before .before .before
 
-axis : (c : tie.Start) → getD (c .args .t11) (c .args .d - 1) 0 ≡ getD (axesOf (sizesOf (now (c .args .file1)))) (c .args .d - 1) 0
+axis : (c : tie.Start) → lastAxis (c .args .plan) ≡ getD (axesOf (sizesOf (now (c .args .file1)))) (c .args .plan .d - 1) 0
 axis c =
-    let k = c .pre .0 in
-    axis-at k (c .args .d - 1) (omega (arith, k .inputs, k .files .sound₁ .inputsLow))
+    let k = c .pre .0 .planned in
+    axis-at k (c .args .plan .d - 1) (omega (arith, plan.inputs k, k .files .sound₁ .inputsLow))
 
-saved-room : (c : tie.Start) → c .args .w * getD (c .args .t11) (c .args .d - 1) 0 ≤ length (now (c .args .other))
+saved-room : (c : tie.Start) → c .args .shape .w * lastAxis (c .args .plan) ≤ length (now (c .args .other))
 saved-room c =
     let k = c .pre .0 in
-    let short : getD (c .args .t11) (c .args .d - 1) 0 ≤ maxAxis = omega (arith, axis c, axis-within (now (c .args .file1)) (k .files .sound₁) (c .args .d - 1)) in
-    omega (arith, mul-le-mul-left (c .args .w) short, k .saved refl)
+    let short : lastAxis (c .args .plan) ≤ maxAxis = omega (arith, axis c, axis-within (now (c .args .file1)) (k .planned .files .sound₁) (c .args .plan .d - 1)) in
+    omega (arith, mul-le-mul-left (c .args .shape .w) short, k .saved (c .pre .1 .0))
 
 sub-u : tie.Need-sub-u
 sub-u c =
-    let k = c .before .before .before .before .before .before .before .pre .0 in
-    omega (arith, k .inputs, k .files .sound₁ .inputsLow)
+    let k = c .before .before .before .before .before .before .before .before .pre .0 in
+    omega (arith, plan.inputs (k .planned), k .planned .files .sound₁ .inputsLow)
 
 mul-u : tie.Need-mul-u
 mul-u c =
-    let k = c .before .before .before .before .before .before .before .pre .0 in
-    omega (arith, k .inputs, k .files .sound₁ .inputsHigh)
+    let k = c .before .before .before .before .before .before .before .before .pre .0 in
+    omega (arith, plan.inputs (k .planned), k .planned .files .sound₁ .inputsHigh)
 
 array-read-u : tie.Need-array-read-u
 array-read-u c =
-    let k = c .before .before .before .before .before .before .before .pre .0 in
-    omega (arith, k .inputs, k .files .sound₁ .inputsLow, k .files .sound₁ .inputsHigh)
+    let k = c .before .before .before .before .before .before .before .before .pre .0 in
+    omega (arith, plan.inputs (k .planned), k .planned .files .sound₁ .inputsLow, k .planned .files .sound₁ .inputsHigh)
 
 save-outputs-requires : tie.Need-save-outputs-requires
 save-outputs-requires c κs =
-    let e = c .before .before .before .before .before .before .before .before .before .before in
+    let e = c .before .before .before .before .before .before .before .before .before .before .before in
     let q = e .pre in (
-      room₁ (q .0) _ (q .1 .1 .1 .0),
+      room₁ (q .0) _ (q .1 .1 .1 .room),
       (
         record {
-          inputCount = q .0 .inputs;
+          inputCount = plan.inputs (q .0 .planned);
           axis = axis e;
-          listed = q .1 .0 .0;
-          rest = q .1 .1 .0 .0;
-          room = q .1 .1 .1 .0;
-          onGrid = q .1 .1 .1 .1;
+          listed = q .1 .1 .0 .listed₁;
+          rest = q .1 .1 .0 .rest₁;
+          room = q .1 .1 .1 .room;
+          onGrid = q .1 .1 .1 .onGrid;
         },
         saved-room e,
       ),
@@ -81,17 +83,17 @@ matching-lanes-requires c κs =
     let e = entry s in
     let q = e .pre in
     let k = q .0 in (
-      room₂ k _ _ (omega (arith, q .1 .1 .1 .0, called .kept .1 .1 .1 .1 .1 .1 .1 .0)) (omega (arith, k .shared refl, called .kept .1 .1 .0)),
+      room₂ k _ _ (omega (arith, q .1 .1 .1 .room, called .kept .1 .1 .1 .1 .0)) (omega (arith, k .shared (q .1 .0), called .kept .1 .1 .0)),
       (
         record {
-          inputCount = k .inputs ∙ ap (λ (z : Sizes). z .d) (k .files .same);
-          axis = axis e ∙ ap (λ (z : Sizes). getD (axesOf z) (e .args .d - 1) 0) (k .files .same);
-          listed = q .1 .0 .1;
-          rest = q .1 .1 .0 .1;
-          room = omega (arith, q .1 .1 .1 .0, called .kept .1 .1 .1 .1 .1 .1 .1 .0);
-          onGrid = same-grid _ _ _ (called .last .1 .1 .1 .1 .1 .1 .1 .0) (k .files .same) (called .ensures .onGrid);
+          inputCount = plan.inputs (k .planned) ∙ ap (λ (z : Sizes). z .d) (k .planned .files .same);
+          axis = axis e ∙ ap (λ (z : Sizes). getD (axesOf z) (e .args .plan .d - 1) 0) (k .planned .files .same);
+          listed = q .1 .1 .0 .listed₂;
+          rest = q .1 .1 .0 .rest₂;
+          room = omega (arith, q .1 .1 .1 .room, called .kept .1 .1 .1 .1 .0);
+          onGrid = same-grid _ _ _ (called .last .1 .1 .1 .1 .0) (k .planned .files .same) (called .ensures .onGrid);
         },
-        omega (arith, saved-room e, called .kept .1 .1 .1 .1 .1 .1 .1 .1 .0),
+        omega (arith, saved-room e, called .kept .1 .1 .1 .1 .1 .0),
       ),
     )
 
@@ -99,10 +101,10 @@ same-length : tie.Need-same-length
 same-length c = c .before .before .before .before .matching-lanes .kept .1 .1 .0 ∙ c .before .before .before .before .before .before .before .before .before .before .before .before .before .before .save-outputs .kept .1 .1 .0
 
 same-length-2 : tie.Need-same-length-2
-same-length-2 c = c .before .before .before .before .before .before .before .before .before .before .before .before .before .before .save-outputs .kept .1 .1 .1 .1 .1 .1 .1 .1 .0
+same-length-2 c = c .before .before .before .before .before .before .before .before .before .before .before .before .before .before .save-outputs .kept .1 .1 .1 .1 .1 .0
 
 same-length-3 : tie.Need-same-length-3
-same-length-3 c = c .before .before .before .before .matching-lanes .kept .1 .1 .1 .1 .1 .1 .1 .0 ∙ c .before .before .before .before .before .before .before .before .before .before .before .before .before .before .save-outputs .kept .1 .1 .1 .1 .1 .1 .1 .0
+same-length-3 c = c .before .before .before .before .matching-lanes .kept .1 .1 .1 .1 .0 ∙ c .before .before .before .before .before .before .before .before .before .before .before .before .before .before .save-outputs .kept .1 .1 .1 .1 .0
 
 returns : tie.Need-returns
 returns c =
@@ -112,7 +114,7 @@ returns c =
     record {
       few = matching .few;
       agree =
-          λ l x h f below. both-shown _ _ _ x (s .save-outputs .last .1 .1 .1 .1 .1 .1 .1 .1 .0) l _ (entry s .pre .0 .files .same)
+          λ l x h f below. both-shown _ _ _ x (s .save-outputs .last .1 .1 .1 .1 .1 .0) l _ (entry s .pre .0 .planned .files .same)
           (saved .outputs l x (omega (arith, h, matching .few)) f below)
           (matching .shown l x h (λ i g. saved .fronts i l g (omega (arith, h, matching .few)) ∙ f i g) below);
     }

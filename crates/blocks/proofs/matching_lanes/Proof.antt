@@ -2,27 +2,28 @@
 -- the outputs below t.
 -- Assumes nothing.
 use mathlib.Core.List.{List}
-use mathlib.Core.Path.{refl, _∙_}
+use mathlib.Core.Path.{_∙_}
 use Prim.Native.Nat.{ℕ, _-_, _≤_}
 use native.Mathlib.Omega.{arith}
 use borrow.Author.Needs.{needs}
-use Rattle.fields.specs.File.{sizesOf}
+use Rattle.batches.proofs.OnGrid.{axis-within}
 use Rattle.rows.proofs.Writing.{before-row}
-use Rattle.blocks.proofs.Along.{Walked, SavedTo, walk-none, walk-grid, walk-more, match-more}
+use Rattle.blocks.specs.declared.Along.{Along}
+use Rattle.blocks.proofs.Lines.{Walked, SavedTo, walk-none, walk-grid, walk-more, match-more}
 use Rattle.blocks.proofs.matching_lanes.Statement.{statement}
 use Rattle.blocks.proofs.matching_lanes.Tie as tie
 
-record Matched (w : ℕ) (s : List ℕ) (n d : ℕ) (inputs₀ before rows inputs saved : List ℕ) (a t u : ℕ) : Type 0 where
-  walked : Walked w s n d inputs₀ before rows inputs t
-  within : t ≤ u
-  few : a ≤ w
-  shown : SavedTo w s d inputs₀ saved a t
+record Matched (a : Along) (s inputs₀ before rows inputs saved : List ℕ) (r t : ℕ) : Type 0 where
+  walked : Walked a s inputs₀ before rows inputs t
+  within : t ≤ a .u
+  few : r ≤ a .w
+  shown : SavedTo a s inputs₀ saved r t
 
 abbrev Inv-loop : tie.InvT-loop
-Inv-loop file n rows₀ list count u d inputs₀ saved w m agreeing₀ t₀ rows inputs agreeing t = Matched w file n d inputs₀ rows₀ rows inputs saved agreeing t u
+Inv-loop file along rows₀ list inputs₀ saved m n d u w agreeing₀ t₀ rows inputs agreeing t = Matched along file inputs₀ rows₀ rows inputs saved agreeing t
 
 abbrev μ-loop : tie.MeasureT-loop
-μ-loop file n rows₀ list count u d inputs₀ saved w m agreeing₀ t₀ rows inputs agreeing t = u - t
+μ-loop file along rows₀ list inputs₀ saved m n d u w agreeing₀ t₀ rows inputs agreeing t = along .u - t
 
 -- the places: the entry, the loop's head, and the calls of a round
 abbrev entry : tie.At-loop Inv-loop μ-loop → tie.Start Inv-loop μ-loop
@@ -37,17 +38,14 @@ filled c = c .before .before .before .before .before
 abbrev run : tie.After-first-unequal Inv-loop μ-loop → tie.After-refresh Inv-loop μ-loop
 run c = c .before .before .before .before
 
-shared-slice-read-m : tie.Need-shared-slice-read-m Inv-loop μ-loop
-shared-slice-read-m c = omega (arith, c .before .before .before .before .before .before .pre .0 .sound .long)
-
-cast-m : tie.Need-cast-m Inv-loop μ-loop
-cast-m c = omega (arith, c .shared-slice-known4 .given 0)
+output-length-requires : tie.Need-output-length-requires Inv-loop μ-loop
+output-length-requires c κs = c .before .before .before .before .before .pre .0 .sound .long
 
 loop-holds : tie.Need-loop-holds Inv-loop μ-loop
 loop-holds c =
     let q = c .before .before .before .before .before .before .pre in
     record {
-      walked = walk-none _ _ _ _ _ _ (q .1 .0 .onGrid);
+      walked = walk-none _ _ _ _ (q .1 .0 .onGrid);
       within = omega arith;
       few = omega arith;
       shown = λ l x g f h. absurd (omega arith);
@@ -61,7 +59,7 @@ sub-fill-row c =
 fill-row-requires : tie.Need-fill-row-requires Inv-loop μ-loop
 fill-row-requires c κs =
     let q = entry (c .before .before) .pre in
-    let a = entry (c .before .before) .args in
+    let a = entry (c .before .before) .args .along in
     omega (arith, c .before .before .loop .inv .walked .long, q .1 .0 .room, before-row (a .w) (a .d - 1) (a .d) (omega (arith, q .1 .0 .inputCount, q .0 .sound .inputsLow)))
 
 refresh-requires : tie.Need-refresh-requires Inv-loop μ-loop
@@ -89,7 +87,7 @@ first-unequal-requires c κs =
     let r = c .before .before .before in
     let f = filled r in
     let q = entry (head f) .pre in
-    let a = entry (head f) .args in
+    let a = entry (head f) .args .along in
     let inv = head f .loop .inv in (
       omega (arith, before-row (a .w) (head f .loop .at) (a .u) (f .before .before .loop-test .taken), q .1 .1),
       omega (arith, before-row (a .w) (a .n - 1) (a .n) (omega (arith, q .0 .count, q .0 .sound .countLow)), q .0 .stepRows, inv .walked .longRows, r .refresh .kept .1 .1 .1 .0),
@@ -112,13 +110,13 @@ returns c = record { few = omega arith; shown = λ l x h. absurd (omega arith) }
 add-at : tie.Need-add-at Inv-loop μ-loop
 add-at c =
     let f = filled (run (c .before)) in
-    omega (arith, f .before .before .loop-test .taken, entry (head f) .fits .u .fits)
+    let q = entry (head f) .pre in
+    omega (arith, f .before .before .loop-test .taken, q .1 .0 .axis, axis-within _ (q .0 .sound) (entry (head f) .args .along .d - 1))
 
 loop-less : tie.Need-loop-less Inv-loop μ-loop
 loop-less c = omega (arith, filled (run (c .before)) .before .before .loop-test .taken)
 
 loop-again : tie.Need-loop-again Inv-loop μ-loop
-unfolding sizesOf
 loop-again c =
     let r = run (c .before) in
     let f = filled r in
@@ -126,7 +124,7 @@ loop-again c =
     let inv = head f .loop .inv in
     let below = f .before .before .loop-test .taken in
     let next =
-    match-more (q .1 .0) (q .0 .sound) (inv .walked) below (f .fill-row .ensures) (r .refresh .last .1 .1 .1 .0) (r .refresh .ensures) _ _ _ _ (q .0 .count) refl (inv .few)
+    match-more (q .1 .0) (q .0 .sound) (inv .walked) below (f .fill-row .ensures) (r .refresh .last .1 .1 .1 .0) (r .refresh .ensures) _ _ _ _ (q .0 .count) (head f .before .output-length .ensures) (inv .few)
     (inv .shown) (c .before .first-unequal .ensures) in
     record {
       walked =
@@ -154,8 +152,7 @@ matching-lanes-spec =
     (tie.spec
     Inv-loop
     μ-loop
-    shared-slice-read-m
-    cast-m
+    output-length-requires
     loop-holds
     sub-fill-row
     fill-row-requires

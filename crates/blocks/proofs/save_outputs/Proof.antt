@@ -6,23 +6,25 @@ use Prim.Native.Nat.{ℕ, _-_, _≤_}
 use native.Mathlib.Omega.{arith}
 use borrow.Author.Needs.{needs}
 use lib.ListN.{length}
+use Rattle.batches.proofs.OnGrid.{axis-within}
 use Rattle.lanes.proofs.Stepped.{width-most}
 use Rattle.rows.proofs.Writing.{before-row}
-use Rattle.blocks.proofs.Along.{Walked, SavedTo, walk-none, walk-grid, walk-more, save-more}
+use Rattle.blocks.specs.declared.Along.{Along}
+use Rattle.blocks.proofs.Lines.{Walked, SavedTo, walk-none, walk-grid, walk-more, save-more}
 use Rattle.blocks.proofs.save_outputs.Statement.{statement}
 use Rattle.blocks.proofs.save_outputs.Tie as tie
 
-record Saving (w : ℕ) (s : List ℕ) (n d : ℕ) (inputs₀ before saved₀ rows inputs saved : List ℕ) (t u : ℕ) : Type 0 where
-  walked : Walked w s n d inputs₀ before rows inputs t
+record Saving (a : Along) (s inputs₀ before saved₀ rows inputs saved : List ℕ) (t : ℕ) : Type 0 where
+  walked : Walked a s inputs₀ before rows inputs t
   longSaved : length saved ≡ length saved₀
-  within : t ≤ u
-  outputs : SavedTo w s d inputs₀ saved w t
+  within : t ≤ a .u
+  outputs : SavedTo a s inputs₀ saved (a .w) t
 
 abbrev Inv-loop : tie.InvT-loop
-Inv-loop file n rows₀ list count u d inputs₀ saved₀ w t₀ rows inputs saved t = Saving w file n d inputs₀ rows₀ saved₀ rows inputs saved t u
+Inv-loop file along rows₀ list inputs₀ saved₀ n d u w t₀ rows inputs saved t = Saving along file inputs₀ rows₀ saved₀ rows inputs saved t
 
 abbrev μ-loop : tie.MeasureT-loop
-μ-loop file n rows₀ list count u d inputs₀ saved₀ w t₀ rows inputs saved t = u - t
+μ-loop file along rows₀ list inputs₀ saved₀ n d u w t₀ rows inputs saved t = along .u - t
 
 -- the places: the entry, the loop's head, and the calls of a round
 abbrev entry : tie.At-loop Inv-loop μ-loop → tie.Start Inv-loop μ-loop
@@ -41,7 +43,7 @@ loop-holds : tie.Need-loop-holds Inv-loop μ-loop
 loop-holds c =
     let q = c .before .before .before .before .before .pre in
     record {
-      walked = walk-none _ _ _ _ _ _ (q .1 .0 .onGrid);
+      walked = walk-none _ _ _ _ (q .1 .0 .onGrid);
       longSaved = refl;
       within = omega arith;
       outputs = λ l x g f h. absurd (omega arith);
@@ -55,7 +57,7 @@ sub-fill-row c =
 fill-row-requires : tie.Need-fill-row-requires Inv-loop μ-loop
 fill-row-requires c κs =
     let q = entry (c .before .before) .pre in
-    let a = entry (c .before .before) .args in
+    let a = entry (c .before .before) .args .along in
     omega (arith, c .before .before .loop .inv .walked .long, q .1 .0 .room, before-row (a .w) (a .d - 1) (a .d) (omega (arith, q .1 .0 .inputCount, q .0 .sound .inputsLow)))
 
 refresh-requires : tie.Need-refresh-requires Inv-loop μ-loop
@@ -83,7 +85,7 @@ copy-row-requires c κs =
     let r = c .before .before .before .before in
     let f = filled r in
     let q = entry (head f) .pre in
-    let a = entry (head f) .args in
+    let a = entry (head f) .args .along in
     let inv = head f .loop .inv in (
       (width-most (q .0 .width), omega (arith, before-row (a .w) (a .n - 1) (a .n) (omega (arith, q .0 .count, q .0 .sound .countLow)), q .0 .stepRows, inv .walked .longRows, r .refresh .kept .1 .1 .1 .0)),
       omega (arith, before-row (a .w) (head f .loop .value) (a .u) (f .before .before .loop-test .taken), q .1 .1, inv .longSaved),
@@ -92,7 +94,8 @@ copy-row-requires c κs =
 add-value : tie.Need-add-value Inv-loop μ-loop
 add-value c =
     let f = filled (run (c .before .before)) in
-    omega (arith, f .before .before .loop-test .taken, entry (head f) .fits .u .fits)
+    let q = entry (head f) .pre in
+    omega (arith, f .before .before .loop-test .taken, q .1 .0 .axis, axis-within _ (q .0 .sound) (entry (head f) .args .along .d - 1))
 
 loop-less : tie.Need-loop-less Inv-loop μ-loop
 loop-less c = omega (arith, filled (run (c .before .before)) .before .before .loop-test .taken)

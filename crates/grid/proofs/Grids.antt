@@ -1,0 +1,26 @@
+-- The grid of given sizes, as the code has it: its size, its first d axes, and that it has a vector. Assumes nothing.
+use mathlib.Core.Path.{_≡_, _∙_, ap}
+use Prim.Native.Nat.{_≤_}
+use native.Mathlib.Omega.{arith}
+use lib.ListN.{length, take, length-map}
+use lib.Seq.{take-at, length-take-le}
+use Rattle.sizes.specs.Sizes.{maxInputs, Sound}
+use Rattle.sizes.specs.declared.Sizes.{Sizes}
+use Rattle.grid.specs.Grid.{axesOf, gridSize, gridOf, widthsOf}
+use Rattle.grid.specs.declared.Grid.{Grid}
+use Rattle.grid.proofs.Axes.{size-least}
+
+module _ (z : Sizes) (g : Grid) (e : g ≡ gridOf z) where
+  pub grid-size : g .size ≡ gridSize z
+  unfolding gridOf
+  grid-size = ap (λ (g : Grid). g .size) e
+
+  pub grid-axes : length (z .widths) ≡ maxInputs → z .d ≤ maxInputs → take (z .d) (g .axes) ≡ axesOf z
+  unfolding gridOf axesOf
+  grid-axes w h =
+      ap (λ (g : Grid). take (z .d) (g .axes)) e
+      ∙ take-at (axesOf z) _ (z .d) (rw length-map (length-take-le (z .d) (z .widths) (omega arith)))
+
+pub grid-least : (z : Sizes) → Sound z → 1 ≤ gridSize z
+unfolding gridSize axesOf
+grid-least z s = size-least (z .m) (s .0 .0) (s .0 .1) (widthsOf z)

@@ -1,0 +1,30 @@
+-- The grid of an accepted file: its axes, and that it has a vector and fewer than 2^64. By the laws of grids.
+-- Assumes nothing.
+use mathlib.Core.List.{List}
+use mathlib.Core.Path.{_≡_}
+use Prim.Native.Nat.{ℕ, _^_, _≤_, _<_}
+use native.Mathlib.Omega.{arith}
+use borrow.Author.Tests.{leb-false}
+use lib.ListN.{length, length-map, length-take, length-drop}
+use Rattle.fields.specs.File.{sizesOf}
+use Rattle.file.specs.Accepted.{Accepted}
+use Rattle.grid.specs.Grid.{axesOf, gridSize, tooLarge}
+use Rattle.grid.proofs.Axes.{never-large}
+use Rattle.grid.proofs.Grids.{grid-least}
+use Rattle.sizes.specs.Sizes.{maxInputs}
+
+module _ (s : List ℕ) (a : Accepted s) where
+  pub length-widths : length (sizesOf s .widths) ≡ maxInputs
+  unfolding sizesOf
+  length-widths = simp (length-take, length-drop) (omega (arith, a .long))
+
+  pub length-axes : length (axesOf (sizesOf s)) ≡ sizesOf s .d
+  unfolding axesOf
+  length-axes = simp (length-map, length-take) (omega (arith, length-widths, a .inputsHigh))
+
+  pub grid-some : 1 ≤ gridSize (sizesOf s)
+  grid-some = grid-least (sizesOf s) ((a .outputLow, a .outputHigh), a .inputsHigh)
+
+  pub grid-fits : gridSize (sizesOf s) < 2 ^ 64
+  unfolding tooLarge
+  grid-fits = leb-false (2 ^ 64) _ (never-large (sizesOf s) (a .outputLow) (a .outputHigh) (a .inputsHigh))

@@ -1,0 +1,37 @@
+-- What the plan of two comparable files holds, number by number.
+-- Assumes nothing.
+use mathlib.Core.List.{List}
+use mathlib.Core.Path.{_≡_, refl, ap}
+use Prim.Native.Nat.{ℕ}
+use lib.ListN.{take}
+use Rattle.fields.specs.File.{sizesOf, stepCount}
+use Rattle.grid.specs.Grid.{axesOf, gridSize, gridOf}
+use Rattle.grid.proofs.Grids.{grid-axes}
+use Rattle.plan.specs.Plan.{planOf, Planned}
+use Rattle.plan.specs.declared.Plan.{Plan}
+use Rattle.plan.proofs.Axes.{length-widths}
+
+module _ {s₁ s₂ : List ℕ} {p : Plan} (k : Planned s₁ s₂ p) where
+  pub count₁ : p .n1 ≡ stepCount s₁
+  unfolding planOf
+  count₁ = ap (λ (q : Plan). q .n1) (k .plan)
+
+  pub count₂ : p .n2 ≡ stepCount s₂
+  unfolding planOf
+  count₂ = ap (λ (q : Plan). q .n2) (k .plan)
+
+  pub output : p .m ≡ sizesOf s₁ .m
+  unfolding planOf
+  output = ap (λ (q : Plan). q .m) (k .plan)
+
+  pub inputs : p .d ≡ sizesOf s₁ .d
+  unfolding planOf
+  inputs = ap (λ (q : Plan). q .d) (k .plan)
+
+  pub vectors : p .size ≡ gridSize (sizesOf s₁)
+  unfolding planOf gridOf
+  vectors = ap (λ (q : Plan). q .size) (k .plan)
+
+  pub grid : take (p .d) (p .axes) ≡ axesOf (sizesOf s₁)
+  unfolding planOf
+  grid = rw (k .plan) (grid-axes (sizesOf s₁) (gridOf (sizesOf s₁)) refl (length-widths s₁ (k .files .sound₁)) (k .files .sound₁ .inputsHigh))

@@ -1,0 +1,57 @@
+-- `plan::plan_of` meets its contract, by what is read of both files.
+-- Assumes nothing.
+use mathlib.Core.List.{List}
+use mathlib.Core.Path.{_≡_}
+use Prim.Native.Nat.{ℕ}
+use Rattle.fields.specs.File.{sizesOf, stepCount}
+use Rattle.grid.specs.Grid.{gridOf}
+use Rattle.grid.specs.declared.Grid.{Grid}
+use Rattle.sizes.specs.declared.Sizes.{Sizes}
+use Rattle.plan.specs.Plan.{planOf}
+use Rattle.plan.specs.declared.Plan.{Plan}
+use borrow.Author.Needs.{needs}
+use Rattle.plan.proofs.plan_of.Statement.{statement}
+use Rattle.plan.proofs.plan_of.Tie as tie
+
+planned :
+    (s₁ s₂ : List ℕ) (z : Sizes) (g : Grid) (n₁ n₂ : ℕ) → z ≡ sizesOf s₁ → g ≡ gridOf z → n₁ ≡ stepCount s₁ → n₂ ≡ stepCount s₂ →
+    _≡_ {A = Plan} (record { n1 = n₁; n2 = n₂; m = z .m; d = z .d; axes = g .axes; size = g .size }) (planOf s₁ s₂)
+unfolding planOf
+planned s₁ s₂ z g n₁ n₂ e f c₁ c₂ = rw (c₁, c₂, f, e)
+
+read-sizes-requires : tie.Need-read-sizes-requires
+read-sizes-requires c κs = search needs
+
+grid-of-requires : tie.Need-grid-of-requires
+grid-of-requires c κs =
+    let a = c .before .before .before .pre .sound₁ in
+    rw (c .read-sizes .ensures) ((a .outputLow, a .outputHigh), a .inputsHigh)
+
+step-count-requires : tie.Need-step-count-requires
+step-count-requires c κs = search needs
+
+step-count-requires-2 : tie.Need-step-count-requires-2
+step-count-requires-2 c κs = search needs
+
+cast-t8 : tie.Need-cast-t8
+cast-t8 c = search needs
+
+cast-t9 : tie.Need-cast-t9
+cast-t9 c = search needs
+
+returns : tie.Need-returns
+returns c =
+    planned _ _ _ _ _ _ (c .before .before .before .before .before .before .read-sizes .ensures) (c .before .before .before .before .before .grid-of .ensures)
+    (c .before .before .before .step-count .ensures .0) (c .before .before .step-count2 .ensures .0)
+
+pub plan-of-spec : {M : Type 1} → statement M
+plan-of-spec =
+    tie.close
+    (tie.spec
+    read-sizes-requires
+    grid-of-requires
+    step-count-requires
+    step-count-requires-2
+    cast-t8
+    cast-t9
+    returns)

@@ -1,0 +1,36 @@
+// What is read of two comparable files once a call.
+use fields::read_sizes;
+use fields::step_count;
+use grid::grid_of;
+use sizes::INPUTS;
+ghost use mathlib.Core.Path.{_≡_};
+ghost use Rattle.plan.specs.Comparison.{Comparable};
+ghost use Rattle.plan.specs.Plan.{planOf};
+
+// N of both files, m, d, the axes of the grid on which the files are compared, with 0 past the last input, and its count of vectors.
+pub struct Plan {
+    pub n1: usize,
+    pub n2: usize,
+    pub m: u64,
+    pub d: usize,
+    pub axes: [u64; INPUTS],
+    pub size: u64,
+}
+
+// The plan of two comparable files.
+pub fn plan_of(file1: &[u8], file2: &[u8]) -> Plan
+    requires { ⌜ Comparable (now file1) (now file2) ⌝ }
+    ensures { λ r. ⌜ r ≡ planOf (now (file1 .entry)) (now (file2 .entry)) ⌝ }
+{
+    let z = read_sizes(file1);
+    let g = grid_of(z);
+    let axes = g.axes;
+    Plan {
+        n1: step_count(file1),
+        n2: step_count(file2),
+        m: z.m as u64,
+        d: z.d as usize,
+        axes,
+        size: g.size,
+    }
+}

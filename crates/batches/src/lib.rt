@@ -17,6 +17,9 @@ ghost use Rattle.sizes.specs.Sizes.{maxInputs};
 ghost use Rattle.batches.specs.Batch.{Live, LanesSet, BatchRun};
 ghost use Rattle.batches.specs.Prepared.{Prepared};
 
+// The largest value of an axis.
+pub const AXIS: usize = 66;
+
 // How two files are run in lanes: the lanes of a row, and whether the files are run in turn in the same rows or have rows of their own each.
 pub struct Shape {
     pub w: usize,

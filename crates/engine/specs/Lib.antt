@@ -1,2 +1,2 @@
 pub mod Engine
-pub mod Span
+pub mod Lengths

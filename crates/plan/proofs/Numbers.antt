@@ -1,15 +1,17 @@
 -- What the plan of two comparable files holds, number by number.
 -- Assumes nothing.
 use mathlib.Core.List.{List}
-use mathlib.Core.Path.{_≡_, refl, ap}
-use Prim.Native.Nat.{ℕ}
-use lib.ListN.{take}
+use mathlib.Core.Path.{_≡_, refl, sym, _∙_, ap}
+use Prim.Native.Nat.{ℕ, _^_, _≤_, _<_}
+use native.Mathlib.Nat.{min-le-right}
+use lib.ListN.{length, take, length-take}
 use Rattle.fields.specs.File.{sizesOf, stepCount}
 use Rattle.grid.specs.Grid.{axesOf, gridSize, gridOf}
 use Rattle.grid.proofs.Grids.{grid-axes}
+use Rattle.places.specs.Places.{size}
 use Rattle.plan.specs.Plan.{planOf, Planned}
 use Rattle.plan.specs.declared.Plan.{Plan}
-use Rattle.plan.proofs.Axes.{length-widths}
+use Rattle.plan.proofs.Axes.{length-widths, length-axes, grid-fits}
 
 module _ {s₁ s₂ : List ℕ} {p : Plan} (k : Planned s₁ s₂ p) where
   pub count₁ : p .n1 ≡ stepCount s₁
@@ -35,3 +37,12 @@ module _ {s₁ s₂ : List ℕ} {p : Plan} (k : Planned s₁ s₂ p) where
   pub grid : take (p .d) (p .axes) ≡ axesOf (sizesOf s₁)
   unfolding planOf
   grid = rw (k .plan) (grid-axes (sizesOf s₁) (gridOf (sizesOf s₁)) refl (length-widths s₁ (k .files .sound₁)) (k .files .sound₁ .inputsHigh))
+
+  pub enough : p .d ≤ length (p .axes)
+  enough =
+      let e : length (take (p .d) (p .axes)) ≡ p .d = ap length grid ∙ length-axes s₁ (k .files .sound₁) ∙ sym inputs in
+      rw (← e) (rw length-take (min-le-right (p .d) (length (p .axes))))
+
+  pub places-fit : size (take (p .d) (p .axes)) < 2 ^ 64
+  unfolding gridSize
+  places-fit = rw grid (grid-fits s₁ (k .files .sound₁))

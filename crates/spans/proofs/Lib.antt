@@ -1,1 +1,1 @@
-mod GridRows
+pub mod GridLines

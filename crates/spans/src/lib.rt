@@ -1,65 +1,95 @@
-// Two comparable files compared over a span of the grid's places: whole rows of the grid in blocks, and what stands before and after them in
+// Two comparable files compared over a span of the grid's places: whole lines of the grid several at a time, and what stands before and after them in
 // batches.
+use batches::Shape;
 use batches::by_batches;
 use batches::set_lanes;
+use blocks::Counts;
 use blocks::agreeing_lanes;
-use lanes::list_dependent;
-ghost use mathlib.Core.Bool.{false};
+use dependence::list_dependent;
+use plan::Plan;
+use rows::LANES;
+use sizes::INPUTS;
 ghost use mathlib.Core.Path.{_≡_};
-ghost use Prim.Native.Nat.{ℕ, _*_, _-_, _≤_, _<_, max};
-ghost use lib.ListN.{length, getD, take, drop};
-ghost use Rattle.batches.specs.Comparison.{outputsDiffer};
+ghost use Prim.Native.Nat.{_*_, _-_, _≤_, _<_, max};
+ghost use lib.ListN.{take};
 ghost use Rattle.batches.specs.Prepared.{Prepared};
+ghost use Rattle.blocks.specs.Block.{lastAxis};
 ghost use Rattle.places.specs.Places.{size};
-ghost use Rattle.search.specs.Search.{first};
+ghost use Rattle.plan.specs.Comparison.{Searched};
+ghost use Rattle.spans.specs.Spans.{FirstLine, Lists, Agreed};
 
-// A row of the grid from `from` to `stop` before which, from `from` on, the outputs agree everywhere. It goes by blocks of w rows; how far it comes is
-// not promised. The first entries of the flags, one for each step, are overwritten.
-fn agreed_rows(
-    file1: &[u8],
-    n1: usize,
-    rows: &mut [u64],
-    list1: &mut [usize],
-    file2: &[u8],
-    n2: usize,
-    other: &mut [u64],
-    list2: &mut [usize],
-    axes: [u64; 8],
-    d: usize,
-    from: u64,
-    stop: u64,
-    flags: &mut [u64],
-    turn: bool,
-    w: usize,
-) -> u64
-    requires { ⌜ Prepared w turn (now file1) (now file2) n1 n2 d axes (now rows) (now other) ⌝ }
-    requires { ⌜ (n1 ≤ length (now list1)) × (n2 ≤ length (now list2)) × (max n1 n2 ≤ length (now flags)) ⌝ }
-    requires { ⌜ (from ≤ stop) × (stop * getD axes (d - 1) 0 ≤ size (take d axes)) ⌝ }
-    ensures { λ r. ⌜ (from ≤ r) × (r ≤ stop) × ((p : ℕ) → from * getD axes (d - 1) 0 ≤ p → p < r * getD axes (d - 1) 0 → outputsDiffer (now (file1 .entry)) (now (file2 .entry)) p ≡ false) × (drop (max n1 n2) (now (flags .exit)) ≡ drop (max n1 n2) (now (flags .entry))) ⌝ }
+// A span of places or of lines: from the first to before the end.
+pub struct Span {
+    pub from: u64,
+    pub end: u64,
+}
+
+// The first line of u places that starts at place p or after it.
+fn first_line(p: u64, u: u64) -> u64
+    requires { ⌜ 0 < u ⌝ }
+    ensures { λ r. ⌜ FirstLine p u r ⌝ }
 {
-    let count1 = list_dependent(file1, n1, d - 1, flags, list1);
-    let count2 = list_dependent(file2, n2, d - 1, flags, list2);
-    let mut inputs = [0u64; 128];
+    let line = p / u;
+    if line * u < p {
+        return line + 1;
+    }
+    line
+}
+
+// How many numbers there are from a to before b.
+fn between(a: u64, b: u64) -> u64
+    ensures { λ r. ⌜ r ≡ b - a ⌝ }
+{
+    if b < a {
+        return 0;
+    }
+    b - a
+}
+
+// A line of the span, given in lines, before which, from its first on, the outputs agree everywhere. It goes by as many lines as there are lanes; how
+// far it comes is not promised. The first entries of the flags, one for each step, are overwritten.
+fn agreed_lines(
+    file1: &[u8],
+    file2: &[u8],
+    plan: Plan,
+    shape: Shape,
+    span: Span,
+    rows: &mut [u64],
+    other: &mut [u64],
+    list1: &mut [usize],
+    list2: &mut [usize],
+    flags: &mut [u64],
+) -> u64
+    requires { ⌜ Prepared shape (now file1) (now file2) plan (now rows) (now other) ⌝ }
+    requires { ⌜ Lists plan (now list1) (now list2) (now flags) ⌝ }
+    requires { ⌜ (span .from ≤ span .end) × (span .end * lastAxis plan ≤ size (take (plan .d) (plan .axes))) ⌝ }
+    ensures { λ r. ⌜
+        Agreed (now (file1 .entry)) (now (file2 .entry)) plan span (now (flags .entry)) r (now (flags .exit))
+        ⌝ }
+{
+    let d = plan.d;
+    let axes = plan.axes;
+    let w = shape.w;
+    let stop = span.end;
+    let c1 = list_dependent(file1, plan.n1, d - 1, flags, list1);
+    let c2 = list_dependent(file2, plan.n2, d - 1, flags, list2);
+    let counts = Counts { c1, c2 };
+    let mut inputs = [0u64; LANES * INPUTS];
     let wide = w as u64;
-    let mut r = from;
+    let mut r = span.from;
     while wide <= stop - r {
         set_lanes(&mut inputs, axes, d - 1, r, w, w);
         let l = agreeing_lanes(
             file1,
-            n1,
-            rows,
-            list1,
-            count1,
             file2,
-            n2,
+            plan,
+            shape,
+            rows,
             other,
+            list1,
             list2,
-            count2,
-            axes,
-            d,
+            counts,
             &mut inputs,
-            turn,
-            w,
         );
         if l < w {
             return r + l as u64;
@@ -69,113 +99,59 @@ fn agreed_rows(
     r
 }
 
-// The first place from `from` to before `end` at which the outputs differ, or `end` where there is none. Whole rows of the grid go in blocks;
-// what stands before and after them, and a row with a difference, in batches.
-pub fn by_blocks(
+// The first place of the span at which the outputs differ, or its end where there is none. Where the span has as many whole lines as there are lanes,
+// these go together; what stands before and after them, and a line with a difference, goes in batches.
+pub fn by_lines(
     file1: &[u8],
-    n1: usize,
-    rows: &mut [u64],
-    list1: &mut [usize],
     file2: &[u8],
-    n2: usize,
+    plan: Plan,
+    shape: Shape,
+    span: Span,
+    rows: &mut [u64],
     other: &mut [u64],
+    list1: &mut [usize],
     list2: &mut [usize],
-    axes: [u64; 8],
-    d: usize,
-    from: u64,
-    end: u64,
     flags: &mut [u64],
-    turn: bool,
-    w: usize,
 ) -> u64
-    requires { ⌜ Prepared w turn (now file1) (now file2) n1 n2 d axes (now rows) (now other) ⌝ }
-    requires { ⌜ (n1 ≤ length (now list1)) × (n2 ≤ length (now list2)) × (max n1 n2 ≤ length (now flags)) ⌝ }
-    requires { ⌜ (from < end) × (end ≤ size (take d axes)) ⌝ }
-    ensures { λ r. ⌜ (r ≡ first (outputsDiffer (now (file1 .entry)) (now (file2 .entry))) from (end - from)) × (drop (max n1 n2) (now (flags .exit)) ≡ drop (max n1 n2) (now (flags .entry))) ⌝ }
+    requires { ⌜ Prepared shape (now file1) (now file2) plan (now rows) (now other) ⌝ }
+    requires { ⌜ Lists plan (now list1) (now list2) (now flags) ⌝ }
+    requires { ⌜ (span .from < span .end) × (span .end ≤ size (take (plan .d) (plan .axes))) ⌝ }
+    ensures { λ r. ⌜
+        Searched (now (file1 .entry)) (now (file2 .entry)) (max (plan .n1) (plan .n2)) (span .from) (span .end)
+        (now (flags .entry)) r (now (flags .exit))
+        ⌝ }
 {
+    let d = plan.d;
+    let axes = plan.axes;
     let u = axes[d - 1];
-    let start = from / u + 1;
+    let from = span.from;
+    let end = span.end;
+    let start = first_line(from, u);
     let stop = end / u;
-    let wide = w as u64;
-    if stop < wide {
-        return by_batches(
-            file1,
-            n1,
-            file2,
-            n2,
-            axes,
-            d,
-            from,
-            end,
-            rows,
-            other,
-            turn,
-            w,
-        );
-    }
-    if stop - wide < start {
-        return by_batches(
-            file1,
-            n1,
-            file2,
-            n2,
-            axes,
-            d,
-            from,
-            end,
-            rows,
-            other,
-            turn,
-            w,
-        );
+    let wide = shape.w as u64;
+    if between(start, stop) < wide {
+        return by_batches(file1, file2, plan, shape, from, end, rows, other);
     }
     let head = start * u;
-    let found = by_batches(
-        file1,
-        n1,
-        file2,
-        n2,
-        axes,
-        d,
-        from,
-        head,
-        rows,
-        other,
-        turn,
-        w,
-    );
+    let found = by_batches(file1, file2, plan, shape, from, head, rows, other);
     if found < head {
         return found;
     }
-    let row = agreed_rows(
+    let lines = Span {
+        from: start,
+        end: stop,
+    };
+    let line = agreed_lines(
         file1,
-        n1,
+        file2,
+        plan,
+        shape,
+        lines,
         rows,
+        other,
         list1,
-        file2,
-        n2,
-        other,
         list2,
-        axes,
-        d,
-        start,
-        stop,
         flags,
-        turn,
-        w,
     );
-    by_batches(
-        file1,
-        n1,
-        file2,
-        n2,
-        axes,
-        d,
-        row * u,
-        end,
-        rows,
-        other,
-        turn,
-        w,
-    )
+    by_batches(file1, file2, plan, shape, line * u, end, rows, other)
 }

@@ -8,23 +8,24 @@ use Rattle.engine.proofs.Prepared.{in-turn}
 use Rattle.engine.proofs.in_middle_lanes.Statement.{statement}
 use Rattle.engine.proofs.in_middle_lanes.Tie as tie
 
-slice-aggregate-by-blocks : tie.Need-slice-aggregate-by-blocks
-slice-aggregate-by-blocks c = search needs
+slice-aggregate-by-lines : tie.Need-slice-aggregate-by-lines
+slice-aggregate-by-lines c = search needs
 
-slice-aggregate-by-blocks-2 : tie.Need-slice-aggregate-by-blocks-2
-slice-aggregate-by-blocks-2 c = search needs
+slice-aggregate-by-lines-2 : tie.Need-slice-aggregate-by-lines-2
+slice-aggregate-by-lines-2 c = search needs
 
-slice-aggregate-by-blocks-3 : tie.Need-slice-aggregate-by-blocks-3
-slice-aggregate-by-blocks-3 c = search needs
+slice-aggregate-by-lines-3 : tie.Need-slice-aggregate-by-lines-3
+slice-aggregate-by-lines-3 c = search needs
 
-slice-aggregate-by-blocks-4 : tie.Need-slice-aggregate-by-blocks-4
-slice-aggregate-by-blocks-4 c = search needs
+slice-aggregate-by-lines-4 : tie.Need-slice-aggregate-by-lines-4
+slice-aggregate-by-lines-4 c = search needs
 
-by-blocks-requires : tie.Need-by-blocks-requires
-by-blocks-requires c κs =
+by-lines-requires : tie.Need-by-lines-requires
+by-lines-requires c κs =
     let q = c .before .before .before .before .before .before .before .before .pre in
     let k = q .0 in
-    (in-turn k 16 _ _ (inl refl) (omega (arith, q .1 .0)) (omega (arith, q .1 .1)) (omega arith), ((q .1 .0, q .1 .1, k .room), (k .some, k .inside)))
+    (in-turn (k .planned) _ _ _ (inl refl) (omega (arith, q .1 .0)) (omega (arith, q .1 .1)) (omega arith),
+    (record { room₁ = q .1 .0; room₂ = q .1 .1; flagged = k .room }, (k .some, k .inside)))
 
 same-length : tie.Need-same-length
 same-length c = search needs
@@ -36,10 +37,10 @@ pub in-middle-lanes-spec : {M : Type 1} → statement M
 in-middle-lanes-spec =
     tie.close
     (tie.spec
-    slice-aggregate-by-blocks
-    slice-aggregate-by-blocks-2
-    slice-aggregate-by-blocks-3
-    slice-aggregate-by-blocks-4
-    by-blocks-requires
+    slice-aggregate-by-lines
+    slice-aggregate-by-lines-2
+    slice-aggregate-by-lines-3
+    slice-aggregate-by-lines-4
+    by-lines-requires
     same-length
     returns)

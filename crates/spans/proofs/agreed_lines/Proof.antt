@@ -1,57 +1,74 @@
--- `spans::agreed_rows` meets its contract. The loop's invariant: the outputs agree at every place of the rows from `from` to before r.
+-- `spans::agreed_lines` meets its contract. The loop's invariant: the outputs agree at every place of the lines from the first of the span to before r.
 -- Assumes nothing.
-use mathlib.Core.Bool.{Bool, false, not}
+use mathlib.Core.Bool.{false, not}
 use mathlib.Core.List.{List}
 use mathlib.Core.Path.{_≡_, refl, sym, _∙_, ap}
-use Prim.Native.Nat.{ℕ, _+_, _*_, _-_, _/_, _≤_, _<_, max}
+use Prim.Native.Nat.{ℕ, _+_, _*_, _-_, _/_, _^_, _≤_, _<_, max}
 use native.Mathlib.Decide.{decLt}
-use native.Mathlib.Nat.{div-lt-iff-lt-mul, le-div-iff-mul-le, le-of-mul-le-mul-right, le-trans, le-max-left, le-max-right, mul-le-mul-right}
+use native.Mathlib.Nat.{div-lt-iff-lt-mul, le-div-iff-mul-le, le-of-mul-le-mul-right, le-trans, le-max-left, le-max-right, le-mul-of-pos-right, mul-le-mul-right}
 use native.Mathlib.Omega.{arith}
 use borrow.Author.Needs.{needs}
 use borrow.Author.Tests.{eq-eqb}
 use denote.Ref.{now}
 use lib.ListN.{length, getD, take, drop}
 use Rattle.batches.specs.Batch.{LanesSet}
-use Rattle.batches.specs.Comparison.{outputsDiffer}
 use Rattle.batches.specs.Prepared.{Prepared}
-use Rattle.batches.proofs.OnGrid.{grid-some}
+use Rattle.batches.specs.declared.Shape.{Shape}
+use Rattle.grid.specs.Grid.{gridSize}
 use Rattle.batches.proofs.Tests.{output-test, inputs-room, prepared-kept}
 use Rattle.evaluate.specs.Evaluate.{outputOf}
 use Rattle.lanes.specs.Lanes.{LanesOnGrid}
 use Rattle.lanes.proofs.Stepped.{width-most, width-least}
 use Rattle.lists.proofs.Lists.{drop-later}
+use Rattle.plan.specs.Comparison.{outputsDiffer}
+use Rattle.plan.specs.declared.Plan.{Plan}
+use Rattle.plan.proofs.Axes.{grid-some}
+use Rattle.plan.proofs.Numbers as plan
 use Rattle.places.specs.Places.{size, vectorAt}
-use Rattle.rows.specs.Rows.{lane}
+use Rattle.rows.specs.Rows.{maxLanes, lane}
 use Rattle.sizes.specs.Sizes.{maxInputs}
-use Rattle.blocks.specs.Block.{Front}
-use Rattle.blocks.proofs.Along.{axis-at}
-use Rattle.spans.proofs.GridRows.{size-rows, axis-pos, front-below, front-end, row-front, row-last}
-use Rattle.spans.proofs.agreed_rows.Statement.{statement}
-use Rattle.spans.proofs.agreed_rows.Tie as tie
+use Rattle.blocks.specs.Block.{lastAxis, Front}
+use Rattle.blocks.proofs.Lines.{axis-at}
+use Rattle.spans.proofs.GridLines.{size-lines, axis-pos, front-below, front-end, line-front, line-last}
+use Rattle.spans.proofs.agreed_lines.Statement.{statement}
+use Rattle.spans.proofs.agreed_lines.Tie as tie
 
-record Passed (w : ℕ) (turn : Bool) (s₁ s₂ : List ℕ) (n₁ n₂ d : ℕ) (axes : List ℕ) (from stop : ℕ) (rows₁₀ rows₂₀ rows₁ rows₂ inputs : List ℕ) (r : ℕ) : Type 0 where
-  prepared : Prepared w turn s₁ s₂ n₁ n₂ d axes rows₁ rows₂
+record Passed (v : Shape) (s₁ s₂ : List ℕ) (g : Plan) (from stop : ℕ) (rows₁₀ rows₂₀ rows₁ rows₂ inputs : List ℕ) (r : ℕ) : Type 0 where
+  prepared : Prepared v s₁ s₂ g rows₁ rows₂
   long₁ : length rows₁ ≡ length rows₁₀
   long₂ : length rows₂ ≡ length rows₂₀
-  lanes : length inputs ≡ 128
-  enough : d ≤ length axes
-  inside : stop * getD axes (d - 1) 0 ≤ size (take d axes)
+  lanes : length inputs ≡ maxLanes * maxInputs
+  enough : g .d ≤ length (g .axes)
+  inside : stop * lastAxis g ≤ size (take (g .d) (g .axes))
   low : from ≤ r
   high : r ≤ stop
-  agree : (p : ℕ) → from * getD axes (d - 1) 0 ≤ p → p < r * getD axes (d - 1) 0 → outputsDiffer s₁ s₂ p ≡ false
+  agree : (p : ℕ) → from * lastAxis g ≤ p → p < r * lastAxis g → outputsDiffer s₁ s₂ p ≡ false
 
 module _
-    {w : ℕ} {turn : Bool} {s₁ s₂ : List ℕ} {n₁ n₂ d : ℕ} {axes : List ℕ} {from stop : ℕ} {rows₁₀ rows₂₀ rows₁ rows₂ inputs : List ℕ} {r : ℕ}
-    (k : Passed w turn s₁ s₂ n₁ n₂ d axes from stop rows₁₀ rows₂₀ rows₁ rows₂ inputs r)
+    {v : Shape} {s₁ s₂ : List ℕ} {g : Plan} {from stop : ℕ} {rows₁₀ rows₂₀ rows₁ rows₂ inputs : List ℕ} {r : ℕ}
+    (k : Passed v s₁ s₂ g from stop rows₁₀ rows₂₀ rows₁ rows₂ inputs r)
   where
+    abbrev w : ℕ
+    w = v .w
+
+    abbrev d : ℕ
+    d = g .d
+
+    abbrev axes : List ℕ
+    axes = g .axes
+
     abbrev u : ℕ
-    u = getD axes (d - 1) 0
+    u = lastAxis g
 
     some : 1 ≤ d
-    some = omega (arith, k .prepared .inputs, k .prepared .files .sound₁ .inputsLow)
+    some = omega (arith, plan.inputs (k .prepared .planned), k .prepared .planned .files .sound₁ .inputsLow)
 
     last-pos : 0 < u
-    last-pos = axis-pos axes d some (k .enough) 0 (rw (k .prepared .grid) (grid-some s₁ (k .prepared .files .sound₁)))
+    unfolding gridSize
+    last-pos = axis-pos axes d some (k .enough) 0 (rw (plan.grid (k .prepared .planned)) (grid-some s₁ (k .prepared .planned .files .sound₁)))
+
+    stop-fits : stop < 2 ^ 64
+    stop-fits = omega (arith, le-mul-of-pos-right stop last-pos, k .inside, plan.places-fit (k .prepared .planned))
 
     module _ (t : w ≤ stop - r) where
       block : (r + w) * u ≤ size (take d axes)
@@ -60,19 +77,19 @@ module _
           le-trans (mul-le-mul-right u within) (k .inside)
 
       rows-left : r + w ≤ size (take (d - 1) axes)
-      rows-left = le-of-mul-le-mul-right (rw (size-rows axes d some (k .enough)) at block) last-pos
+      rows-left = le-of-mul-le-mul-right (rw (size-lines axes d some (k .enough)) at block) last-pos
 
       -- the lanes set to the rows of the grid from r on, with 0 for the last input, are on the grid
       on-grid : (before inputs' : List ℕ) → LanesSet w (take (d - 1) axes) r w before inputs' → LanesOnGrid w s₁ inputs'
-      on-grid before inputs' w i l h t =
-          let g : r + l < size (take (d - 1) axes) = omega (arith, rows-left) in
-          let axis = axis-at (k .prepared) i (omega (arith, h, k .prepared .inputs)) in
-          let at = w .set i l (omega (arith, h, k .prepared .files .sound₁ .inputsHigh)) t in
+      on-grid before inputs' wr i l h t =
+          let line : r + l < size (take (d - 1) axes) = omega (arith, rows-left) in
+          let axis = axis-at (k .prepared .planned) i (omega (arith, h, plan.inputs (k .prepared .planned))) in
+          let at = wr .set i l (omega (arith, h, k .prepared .planned .files .sound₁ .inputsHigh)) t in
           elim (decLt i (d - 1)) [
-            | yes front ↦ omega (arith, at, axis, front-below axes d some (k .enough) (r + l) g i front)
+            | yes front ↦ omega (arith, at, axis, front-below axes d some (k .enough) (r + l) line i front)
             | no end ↦
-                let last : i ≡ d - 1 = omega (arith, h, k .prepared .inputs) in
-                let zero : getD (vectorAt (take (d - 1) axes) (r + l)) i 0 ≡ 0 = rw last (front-end axes d some (k .enough) (r + l) g) in
+                let last : i ≡ d - 1 = omega (arith, h, plan.inputs (k .prepared .planned)) in
+                let zero : getD (vectorAt (take (d - 1) axes) (r + l)) i 0 ≡ 0 = rw last (front-end axes d some (k .enough) (r + l) line) in
                 let pos : 0 < getD axes i 0 = rw last last-pos in
                 omega (arith, at, axis)
           ]
@@ -92,16 +109,16 @@ module _
               let l : p / u - r < a = omega arith in
               let e : r + (p / u - r) ≡ p / u = omega arith in
               let front : Front w d inputs' (p / u - r) (vectorAt (take d axes) p) =
-              λ i g. filled i (p / u - r) (omega (arith, g, k .prepared .inputs, k .prepared .files .sound₁ .inputsHigh)) (omega arith) ∙ ap (λ q. getD (vectorAt (take (d - 1) axes) q) i 0) e ∙ sym (row-front axes d some (k .enough) p h i g) in
-              let same = agrees (p / u - r) (vectorAt (take d axes) p) l front (row-last axes d some (k .enough) p h) in
-              sym (output-test s₁ s₂ p (k .prepared .files .same)) ∙ ap not (eq-eqb _ _ (rw (k .prepared .grid) at same))
+              λ i g. filled i (p / u - r) (omega (arith, g, plan.inputs (k .prepared .planned), k .prepared .planned .files .sound₁ .inputsHigh)) (omega arith) ∙ ap (λ q. getD (vectorAt (take (d - 1) axes) q) i 0) e ∙ sym (line-front axes d some (k .enough) p h i g) in
+              let same = agrees (p / u - r) (vectorAt (take d axes) p) l front (line-last axes d some (k .enough) p h) in
+              sym (output-test s₁ s₂ p (k .prepared .planned .files .same)) ∙ ap not (eq-eqb _ _ (rw (plan.grid (k .prepared .planned)) at same))
 
           passed : (p : ℕ) → from * u ≤ p → p < (r + a) * u → outputsDiffer s₁ s₂ p ≡ false
           passed p low high = elim (decLt p (r * u)) [ yes h ↦ k .agree p low h | no h ↦ place p (omega arith) high ]
 
           more :
-              (rows₁' rows₂' inputs'' : List ℕ) → length rows₁' ≡ length rows₁ → length rows₂' ≡ length rows₂ → length inputs'' ≡ 128 →
-              w ≤ a → Passed w turn s₁ s₂ n₁ n₂ d axes from stop rows₁₀ rows₂₀ rows₁' rows₂' inputs'' (r + w)
+              (rows₁' rows₂' inputs'' : List ℕ) → length rows₁' ≡ length rows₁ → length rows₂' ≡ length rows₂ → length inputs'' ≡ maxLanes * maxInputs →
+              w ≤ a → Passed v s₁ s₂ g from stop rows₁₀ rows₂₀ rows₁' rows₂' inputs'' (r + w)
           more rows₁' rows₂' inputs'' e₁ e₂ e₃ all =
               let e : a ≡ w = omega arith in
               record {
@@ -117,15 +134,15 @@ module _
               }
 
 abbrev Inv-loop : tie.InvT-loop
-Inv-loop file1 n1 rows1₀ list1 file2 n2 rows2₀ list2 axes d from stop flags turn w count1 count2 inputs₀ wide r₀ rows1 rows2 inputs r =
-    Passed w turn file1 file2 n1 n2 d axes from stop rows1₀ rows2₀ rows1 rows2 inputs r
+Inv-loop file1 file2 plan shape rows1₀ rows2₀ list1 list2 flags d axes w stop c1 c2 counts inputs₀ wide r₀ rows1 rows2 inputs r =
+    Passed shape file1 file2 plan r₀ stop rows1₀ rows2₀ rows1 rows2 inputs r
 
 abbrev μ-loop : tie.MeasureT-loop
-μ-loop file1 n1 rows1₀ list1 file2 n2 rows2₀ list2 axes d from stop flags turn w count1 count2 inputs₀ wide r₀ rows1 rows2 inputs r = stop - r
+μ-loop file1 file2 plan shape rows1₀ rows2₀ list1 list2 flags d axes w stop c1 c2 counts inputs₀ wide r₀ rows1 rows2 inputs r = stop - r
 
 -- the places: the entry, the calls that list the steps, the loop's head, and the call that sets the lanes
 abbrev entry : tie.After-list-dependent Inv-loop μ-loop → tie.Start Inv-loop μ-loop
-entry c = c .before .before .before .before .before .before .before .before .before .before
+entry c = c .before .before .before .before .before .before .before .before .before .before .before
 
 abbrev first : tie.After-list-dependent2 Inv-loop μ-loop → tie.After-list-dependent Inv-loop μ-loop
 first c = c .before .before .before .before .before .before .before
@@ -143,39 +160,39 @@ lanes c = c .before .before .before .before .before .before .before
 flags-kept :
     (c : tie.After-list-dependent2 Inv-loop μ-loop) →
     let a = entry (first c) .args in
-    drop (max (a .n1) (a .n2)) (c .list-dependent2 .last .1 .1 .1 .0) ≡ drop (max (a .n1) (a .n2)) (now (a .flags))
+    drop (max (a .plan .n1) (a .plan .n2)) (c .list-dependent2 .last .1 .1 .1 .0) ≡ drop (max (a .plan .n1) (a .plan .n2)) (now (a .flags))
 flags-kept c =
     let a = entry (first c) .args in
-    drop-later _ _ (a .n2) _ (le-max-right (a .n1) (a .n2)) (c .list-dependent2 .ensures .2)
-    ∙ drop-later _ _ (a .n1) _ (le-max-left (a .n1) (a .n2)) (first c .list-dependent .ensures .2)
-
-eight : (c : tie.Start Inv-loop μ-loop) → length (c .args .axes) ≡ 8
-eight c = search needs
+    drop-later _ _ (a .plan .n2) _ (le-max-right (a .plan .n1) (a .plan .n2)) (c .list-dependent2 .ensures .kept)
+    ∙ drop-later _ _ (a .plan .n1) _ (le-max-left (a .plan .n1) (a .plan .n2)) (first c .list-dependent .ensures .kept)
 
 sub-list-dependent : tie.Need-sub-list-dependent Inv-loop μ-loop
 sub-list-dependent c =
-    let k = c .before .before .before .before .before .before .before .pre .0 in
-    omega (arith, k .inputs, k .files .sound₁ .inputsLow)
+    let k = c .before .before .before .before .before .before .before .before .pre .0 in
+    omega (arith, plan.inputs (k .planned), k .planned .files .sound₁ .inputsLow)
 
 list-dependent-requires : tie.Need-list-dependent-requires Inv-loop μ-loop
 list-dependent-requires c κs =
-    let e = c .before .before .before .before .before .before .before .before .before in
+    let e = c .before .before .before .before .before .before .before .before .before .before in
     let q = e .pre in
-    (q .0 .files .sound₁, q .0 .count₁, omega (arith, q .1 .0 .2, le-max-left (e .args .n1) (e .args .n2)), q .1 .0 .0)
+    let k = q .0 .planned in
+    (record { sound = k .files .sound₁; count = plan.count₁ k }, (omega (arith, q .1 .0 .flagged, le-max-left (e .args .plan .n1) (e .args .plan .n2)), q .1 .0 .room₁))
 
 sub-list-dependent-2 : tie.Need-sub-list-dependent-2 Inv-loop μ-loop
 sub-list-dependent-2 c =
     let k = entry (c .before .before .before .before) .pre .0 in
-    omega (arith, k .inputs, k .files .sound₁ .inputsLow)
+    omega (arith, plan.inputs (k .planned), k .planned .files .sound₁ .inputsLow)
 
 list-dependent-requires-2 : tie.Need-list-dependent-requires-2 Inv-loop μ-loop
 list-dependent-requires-2 c κs =
     let e = entry (c .before .before .before .before .before .before) in
-    let q = e .pre in (
-      q .0 .files .sound₂,
-      q .0 .count₂,
-      omega (arith, q .1 .0 .2, le-max-right (e .args .n1) (e .args .n2), c .before .before .before .before .before .before .list-dependent .kept .1 .1 .1 .0),
-      q .1 .0 .1,
+    let q = e .pre in
+    let k = q .0 .planned in (
+      record { sound = k .files .sound₂; count = plan.count₂ k },
+      (
+        omega (arith, q .1 .0 .flagged, le-max-right (e .args .plan .n1) (e .args .plan .n2), c .before .before .before .before .before .before .list-dependent .kept .1 .1 .1 .0),
+        q .1 .0 .room₂,
+      ),
     )
 
 loop-holds : tie.Need-loop-holds Inv-loop μ-loop
@@ -187,7 +204,7 @@ loop-holds c =
       long₁ = refl;
       long₂ = refl;
       lanes = refl;
-      enough = omega (arith, eight e, q .0 .inputs, q .0 .files .sound₁ .inputsHigh);
+      enough = plan.enough (q .0 .planned);
       inside = q .1 .1 .1;
       low = omega arith;
       high = q .1 .1 .0;
@@ -206,9 +223,15 @@ sub-set-lanes c = some (c .before .before .loop .inv)
 set-lanes-requires : tie.Need-set-lanes-requires Inv-loop μ-loop
 set-lanes-requires c κs =
     let k = c .before .before .loop .inv in
-    let e = k .prepared .inputs in
-    let few = k .prepared .files .sound₁ .inputsHigh in
-    (omega (arith, e, few), omega (arith, width-most (k .prepared .width), k .lanes), omega (arith, width-least (k .prepared .width)), omega arith, rows-left k (c .before .loop-test .taken))
+    let e = plan.inputs (k .prepared .planned) in
+    let few = k .prepared .planned .files .sound₁ .inputsHigh in
+    (omega (arith, e, few),
+    record {
+      room = omega (arith, width-most (k .prepared .width), k .lanes);
+      some = omega (arith, width-least (k .prepared .width));
+      few = omega arith;
+      inside = rows-left k (c .before .loop-test .taken);
+    })
 
 slice-aggregate-agreeing-lanes : tie.Need-slice-aggregate-agreeing-lanes Inv-loop μ-loop
 slice-aggregate-agreeing-lanes c =
@@ -223,25 +246,30 @@ agreeing-lanes-requires c κs =
     let l₁ = first (second h) .list-dependent .ensures in
     let l₂ = second h .list-dependent2 .ensures in
     let grid = on-grid k (s .before .before .loop-test .taken) _ _ (s .set-lanes .ensures) in
-    (k .prepared, ((l₁ .0, l₂ .0), ((l₁ .1, l₂ .1), (inputs-room (k .prepared) (s .set-lanes .last .0) (omega (arith, s .set-lanes .kept .0, k .lanes, width-most (k .prepared .width))), grid))))
+    (k .prepared,
+    (record { listed₁ = l₁ .listed; listed₂ = l₂ .listed; rest₁ = l₁ .rest; rest₂ = l₂ .rest },
+    record {
+      room = inputs-room (k .prepared) (s .set-lanes .last .0) (omega (arith, s .set-lanes .kept .0, k .lanes, width-most (k .prepared .width)));
+      onGrid = grid;
+    }))
 
 add-result : tie.Need-add-result Inv-loop μ-loop
 add-result c =
     let s = lanes (c .before .before .before .before .before .before) in
-    omega (arith, s .before .before .loop-test .taken, c .if1 .taken, entry (first (second (head s))) .fits .stop .fits)
+    omega (arith, s .before .before .loop-test .taken, c .if1 .taken, stop-fits (head s .loop .inv))
 
 same-length : tie.Need-same-length Inv-loop μ-loop
 same-length c =
     let b = c .before .before .before .before .before .before in
-    b .agreeing-lanes .kept .1 .1 .0 ∙ head (lanes b) .loop .inv .long₁
+    b .agreeing-lanes .kept .1 .1 .1 .1 .0 ∙ head (lanes b) .loop .inv .long₁
 
 same-length-2 : tie.Need-same-length-2 Inv-loop μ-loop
-same-length-2 c = first (second (head (lanes (c .before .before .before .before .before .before)))) .list-dependent .kept .1 .1 .1 .1 .0
+same-length-2 c =
+    let b = c .before .before .before .before .before .before in
+    b .agreeing-lanes .kept .1 .1 .1 .1 .1 .0 ∙ head (lanes b) .loop .inv .long₂
 
 same-length-3 : tie.Need-same-length-3 Inv-loop μ-loop
-same-length-3 c =
-    let b = c .before .before .before .before .before .before in
-    b .agreeing-lanes .kept .1 .1 .1 .1 .1 .1 .1 .0 ∙ head (lanes b) .loop .inv .long₂
+same-length-3 c = first (second (head (lanes (c .before .before .before .before .before .before)))) .list-dependent .kept .1 .1 .1 .1 .0
 
 same-length-4 : tie.Need-same-length-4 Inv-loop μ-loop
 same-length-4 c = second (head (lanes (c .before .before .before .before .before .before))) .list-dependent2 .kept .1 .1 .1 .1 .0
@@ -256,17 +284,18 @@ returns c =
     let block = c .before .before .before .before .before .before .agreeing-lanes in
     let s = lanes (c .before .before .before .before .before .before) in
     let t = s .before .before .loop-test .taken in
-    let k = head s .loop .inv in (
-      omega (arith, k .low),
-      omega (arith, k .high, t, c .if1 .taken),
-      passed k t (s .set-lanes .last .0) (s .set-lanes .ensures .set) _ (block .ensures .few) (block .ensures .agree),
-      flags-kept (second (head s)),
-    )
+    let k = head s .loop .inv in
+    record {
+      low = omega (arith, k .low);
+      high = omega (arith, k .high, t, c .if1 .taken);
+      agree = passed k t (s .set-lanes .last .0) (s .set-lanes .ensures .set) _ (block .ensures .few) (block .ensures .agree);
+      kept = flags-kept (second (head s));
+    }
 
 add-r : tie.Need-add-r Inv-loop μ-loop
 add-r c =
     let s = lanes (c .before .before .before .before .before .before) in
-    omega (arith, s .before .before .loop-test .taken, entry (first (second (head s))) .fits .stop .fits)
+    omega (arith, s .before .before .loop-test .taken, stop-fits (head s .loop .inv))
 
 loop-less : tie.Need-loop-less Inv-loop μ-loop
 loop-less c =
@@ -279,17 +308,17 @@ loop-again c =
     let k = head s .loop .inv in
     let set = s .set-lanes in
     let block = c .before .before .before .before .before .before .agreeing-lanes in
-    more k (s .before .before .loop-test .taken) (set .last .0) (set .ensures .set) _ (block .ensures .few) (block .ensures .agree) _ _ _ (block .kept .1 .1 .0)
-    (block .kept .1 .1 .1 .1 .1 .1 .1 .0) (block .kept .1 .1 .1 .1 .1 .1 .1 .1 .1 .1 .1 .1 .0 ∙ set .kept .0 ∙ k .lanes) (c .if1 .left)
+    more k (s .before .before .loop-test .taken) (set .last .0) (set .ensures .set) _ (block .ensures .few) (block .ensures .agree) _ _ _ (block .kept .1 .1 .1 .1 .0)
+    (block .kept .1 .1 .1 .1 .1 .0) (block .kept .1 .1 .1 .1 .1 .1 .1 .1 .1 .0 ∙ set .kept .0 ∙ k .lanes) (c .if1 .left)
 
 same-length-6 : tie.Need-same-length-6 Inv-loop μ-loop
 same-length-6 c = c .before .loop .inv .long₁
 
 same-length-7 : tie.Need-same-length-7 Inv-loop μ-loop
-same-length-7 c = first (second (c .before)) .list-dependent .kept .1 .1 .1 .1 .0
+same-length-7 c = c .before .loop .inv .long₂
 
 same-length-8 : tie.Need-same-length-8 Inv-loop μ-loop
-same-length-8 c = c .before .loop .inv .long₂
+same-length-8 c = first (second (c .before)) .list-dependent .kept .1 .1 .1 .1 .0
 
 same-length-9 : tie.Need-same-length-9 Inv-loop μ-loop
 same-length-9 c = second (c .before) .list-dependent2 .kept .1 .1 .1 .1 .0
@@ -302,10 +331,10 @@ same-length-10 c =
 returns-2 : tie.Need-returns-2 Inv-loop μ-loop
 returns-2 c =
     let k = c .before .loop .inv in
-    (k .low, k .high, k .agree, flags-kept (second (c .before)))
+    record { low = k .low; high = k .high; agree = k .agree; kept = flags-kept (second (c .before)) }
 
-pub agreed-rows-spec : {M : Type 1} → statement M
-agreed-rows-spec =
+pub agreed-lines-spec : {M : Type 1} → statement M
+agreed-lines-spec =
     tie.close
     (tie.spec
     Inv-loop

@@ -1,4 +1,4 @@
--- The rows of a grid: of the vector at place p, the entries before the last are the vector at place p / u of the grid without the last axis u,
+-- The lines of a grid: of the vector at place p, the entries before the last are the vector at place p / u of the grid without the last axis u,
 -- and the last one is below u. The entries before the last are below their axes.
 -- Assumes nothing.
 use mathlib.Core.Path.{_≡_, _∙_, ap}
@@ -19,12 +19,12 @@ module _ (axes : List ℕ) (d : ℕ) (low : 1 ≤ d) (high : d ≤ length axes) 
       let e : d ≡ suc (d - 1) = omega arith in
       ap (λ k. take k axes) e ∙ take-suc axes (d - 1) 0 (omega arith)
 
-  pub size-rows : size (take d axes) ≡ size (take (d - 1) axes) * getD axes (d - 1) 0
-  size-rows = ap size axes-snoc ∙ size-snoc (take (d - 1) axes) (getD axes (d - 1) 0)
+  pub size-lines : size (take d axes) ≡ size (take (d - 1) axes) * getD axes (d - 1) 0
+  size-lines = ap size axes-snoc ∙ size-snoc (take (d - 1) axes) (getD axes (d - 1) 0)
 
   -- where there is a vector, the last axis is not 0
   pub axis-pos : (p : ℕ) → p < size (take d axes) → 0 < getD axes (d - 1) 0
-  axis-pos p h = rest-pos (size (take (d - 1) axes)) (getD axes (d - 1) 0) p (rw size-rows at h)
+  axis-pos p h = rest-pos (size (take (d - 1) axes)) (getD axes (d - 1) 0) p (rw size-lines at h)
 
   -- the vector at place r of the grid without the last axis
   module _ (r : ℕ) (h : r < size (take (d - 1) axes)) where
@@ -45,17 +45,17 @@ module _ (axes : List ℕ) (d : ℕ) (low : 1 ≤ d) (high : d ≤ length axes) 
     front-end = List·getD-eq-default (vectorAt (take (d - 1) axes) r) 0 {n = d - 1} (omega (arith, length-front))
 
   module _ (p : ℕ) (h : p < size (take d axes)) where
-    row : p / getD axes (d - 1) 0 < size (take (d - 1) axes)
-    row = div-lt-iff-lt-mul (axis-pos p h) .1 (rw size-rows at h)
+    line : p / getD axes (d - 1) 0 < size (take (d - 1) axes)
+    line = div-lt-iff-lt-mul (axis-pos p h) .1 (rw size-lines at h)
 
     abbrev front : List ℕ
     front = vectorAt (take (d - 1) axes) (p / getD axes (d - 1) 0)
 
     split : vectorAt (take d axes) p ≡ front ++ (p % getD axes (d - 1) 0 ∷ [])
-    split = ap (λ us. vectorAt us p) axes-snoc ∙ vector-snoc (take (d - 1) axes) (getD axes (d - 1) 0) p (rw size-rows at h)
+    split = ap (λ us. vectorAt us p) axes-snoc ∙ vector-snoc (take (d - 1) axes) (getD axes (d - 1) 0) p (rw size-lines at h)
 
-    pub row-front : (i : ℕ) → i < d - 1 → getD (vectorAt (take d axes) p) i 0 ≡ getD (vectorAt (take (d - 1) axes) (p / getD axes (d - 1) 0)) i 0
-    row-front i l = ap (λ v. getD v i 0) split ∙ List·getD-append front _ 0 i (omega (arith, length-front _ row))
+    pub line-front : (i : ℕ) → i < d - 1 → getD (vectorAt (take d axes) p) i 0 ≡ getD (vectorAt (take (d - 1) axes) (p / getD axes (d - 1) 0)) i 0
+    line-front i l = ap (λ v. getD v i 0) split ∙ List·getD-append front _ 0 i (omega (arith, length-front _ line))
 
-    pub row-last : getD (vectorAt (take d axes) p) (d - 1) 0 < getD axes (d - 1) 0
-    row-last = omega (arith, ap (λ v. getD v (d - 1) 0) split ∙ getD-at front _ [] 0 (d - 1) (length-front _ row), mod-lt p (axis-pos p h))
+    pub line-last : getD (vectorAt (take d axes) p) (d - 1) 0 < getD axes (d - 1) 0
+    line-last = omega (arith, ap (λ v. getD v (d - 1) 0) split ∙ getD-at front _ [] 0 (d - 1) (length-front _ line), mod-lt p (axis-pos p h))

@@ -12,9 +12,9 @@ use Rattle.evaluate.proofs.Words.{output-entries}
 use Rattle.fields.specs.File.{sizesOf}
 use Rattle.grid.specs.Grid.{axesOf}
 use Rattle.places.specs.Places.{vectorAt}
+use Rattle.plan.specs.Comparison.{outputsDiffer}
 use Rattle.vectors.specs.Vectors.{held}
 use Rattle.vectors.proofs.Held.{held-entry}
-use Rattle.engine.specs.Engine.{outputsDiffer}
 
 pub output-held : (s v : List ℕ) → outputOf s (held v) ≡ outputOf s v
 output-held s v = output-entries s (held v) v (held-entry v)

@@ -28,14 +28,7 @@ pub struct Shape {
 
 // The first `live` lanes of the input rows become the vectors from place p on, of the grid with the first d of the axes. The other lanes stay as they
 // were.
-pub fn set_lanes(
-    inputs: &mut [u64],
-    axes: [u64; INPUTS],
-    d: usize,
-    p: u64,
-    live: usize,
-    w: usize,
-)
+pub fn set_lanes(inputs: &mut [u64], axes: [u64; INPUTS], d: usize, p: u64, live: usize, w: usize)
     requires { ⌜ d ≤ maxInputs ⌝ }
     requires { ⌜ Live w (take d axes) p live (now inputs) ⌝ }
     ensures { λ _. ⌜ LanesSet w (take d axes) p live (now (inputs .entry)) (now (inputs .exit)) ⌝ }

@@ -41,14 +41,7 @@ struct Along {
 }
 
 // The rows of a file along a line: all steps at its first place, the listed ones at a later one.
-fn refresh(
-    file: &[u8],
-    along: Along,
-    inputs: &[u64],
-    rows: &mut [u64],
-    list: &[usize],
-    t: u64,
-)
+fn refresh(file: &[u8], along: Along, inputs: &[u64], rows: &mut [u64], list: &[usize], t: u64)
     requires { ⌜ Room (along .w) (now file) (along .n) (now inputs) (now rows) ⌝ }
     requires { ⌜ Listed (along .n) (now list) (along .count) ⌝ }
     requires { ⌜ LanesOnGrid (along .w) (now file) (now inputs) ⌝ }
@@ -257,5 +250,16 @@ pub fn agreeing_lanes(
             inputs,
         );
     }
-    agreeing_apart(file1, file2, plan, shape, rows, other, list1, list2, counts, inputs)
+    agreeing_apart(
+        file1,
+        file2,
+        plan,
+        shape,
+        rows,
+        other,
+        list1,
+        list2,
+        counts,
+        inputs,
+    )
 }

@@ -15,25 +15,24 @@ use Rattle.bound.proofs.Least.{leastBound}
 use Rattle.evaluate.specs.Evaluate.{refusalAt, evaluatedAt, scratchAfter}
 use Rattle.evaluate.specs.declared.Evaluated.{Evaluated as Answer}
 use Rattle.evaluate.proofs.Answers.{answer-accepted}
-use Rattle.exports.specs.FileCalls.{CheckCall, OperationsCall, BoundCall, GridCall, EvaluateCall}
-use Rattle.exports.specs.Layout.{has, returned, leaves}
-use Rattle.exports.specs.SessionCalls.{continueFits, continuing, ContinueCall}
-use Rattle.exports.specs.TableCalls.{cellsFit, TableCall, DifferenceCall, SumCall}
-use Rattle.exports.specs.Words.{operationWords, boundWords, gridWords, evaluateWords}
-use Rattle.exports.proofs.Answered.{grid-refused, grid-accepted, bound-refused, bound-accepted}
 use Rattle.file.specs.Accepted.{Accepted}
 use Rattle.file.specs.Check.{fileNumber, refusalOf}
 use Rattle.fields.specs.File.{sizesOf, stepCount}
 use Rattle.file.proofs.Accepted.{accepted as file-accepted}
 use Rattle.file.proofs.Number.{refusal-number}
+use Rattle.file_calls.specs.FileCalls.{CheckCall, OperationsCall, EvaluateCall, operationWords, evaluateWords}
 use Rattle.grid.specs.Grid.{axesOf, gridSize, gridOf}
+use Rattle.grid_calls.specs.GridCalls.{BoundCall, GridCall, boundWords, gridWords}
+use Rattle.grid_calls.proofs.Answered.{grid-refused, grid-accepted, bound-refused, bound-accepted}
 use Rattle.layouts.specs.AnswerWords.{refusalWords, answerWords}
+use Rattle.layouts.specs.Layout.{has, returned, leaves}
 use Rattle.layouts.specs.Lengths.{word}
 use Rattle.layouts.specs.SessionWords.{sessionFrom}
 use Rattle.layouts.specs.SizeWords.{sizeWords, sizesFrom}
 use Rattle.layouts.proofs.Sessions.{file-widths, file-bytes}
 use Rattle.layouts.proofs.Sizes.{sizesAsWords}
 use Rattle.search.proofs.Search.{true-or-false}
+use Rattle.session_calls.specs.SessionCalls.{continueFits, continuing, ContinueCall}
 use Rattle.sessions.specs.Calls.{answerTo}
 use Rattle.sessions.specs.Session.{isRefusal, continueRefusal}
 use Rattle.sessions.proofs.Cases.{scratch-accepted as session-scratch}
@@ -42,6 +41,7 @@ use Rattle.sizes.specs.Sizes.{within, accepted}
 use Rattle.sizes.specs.declared.Refusal.{Refusal}
 use Rattle.sizes.specs.declared.Sizes.{Sizes}
 use Rattle.sizes.proofs.Ranges.{within-range}
+use Rattle.table_calls.specs.TableCalls.{cellsFit, TableCall, DifferenceCall, SumCall}
 use Rattle.tables.specs.Demand2.{Holds}
 use Rattle.tables.specs.Tables.{tableRefusal, cellsRefusal, madeTable, tableScratch, differenced, summedUp}
 use Rattle.tables.proofs.Answers.{passed, at-0, fits, made, table-0, table-accepted, scratch-accepted}
@@ -269,7 +269,7 @@ module _ (z x y q y′ q′ : List ℕ) (v : Sizes) (c w : List ℕ) (same : siz
       record {
         number = first (wrote (cellsFit z q) (refusalWords (cellsRefusal (sizesFrom z) x (length y))) q q′ (k .result) (k .out)) ∙ number-of (refusal-same ∙ e);
         entries =
-            wrote (cellsFit z q) (summedUp (sizesFrom z) x y) y y′ (k .result) (k .outputs)
+            wrote (cellsFit z q) (summedUp (sizesFrom z) x y) y y′ (k .result) (k .written)
             ∙ ap (λ (j : Sizes). summedUp j x y) same
             ∙ ap (λ (j : List ℕ). summedUp v j y) given
             ∙ p;
@@ -281,7 +281,7 @@ module _ (z x y q y′ q′ : List ℕ) (v : Sizes) (c w : List ℕ) (same : siz
       record {
         number = first (wrote (cellsFit z q) (refusalWords (cellsRefusal (sizesFrom z) x (length y))) q q′ (k .result) (k .out)) ∙ number-of (refusal-same ∙ e);
         entries =
-            wrote (cellsFit z q) (differenced (sizesFrom z) x y) y y′ (k .result) (k .table)
+            wrote (cellsFit z q) (differenced (sizesFrom z) x y) y y′ (k .result) (k .written)
             ∙ ap (λ (j : Sizes). differenced j x y) same
             ∙ ap (λ (j : List ℕ). differenced v j y) given
             ∙ p;
@@ -312,13 +312,13 @@ difference-of-sum : DifferenceOfSumInC
 difference-of-sum z t y o y′ o′ h zero u q u′ q′ k room =
     let p = differenceOfSum (sizesFrom z) t y u (first-passed z t y o o′ (h .result) (h .out) zero) room in
     differenced-next z y′ u q u′ q′ (sizesFrom z) (summedUp (sizesFrom z) t y) _ refl
-    (wrote (cellsFit z o) _ y y′ (h .result) (h .outputs)) k (p .0) (p .1)
+    (wrote (cellsFit z o) _ y y′ (h .result) (h .written)) k (p .0) (p .1)
 
 sum-of-difference : SumOfDifferenceInC
 sum-of-difference z y t o t′ o′ h zero u q u′ q′ k room =
     let p = sumOfDifference (sizesFrom z) y t u (first-passed z y t o o′ (h .result) (h .out) zero) room in
     summed-next z t′ u q u′ q′ (sizesFrom z) (differenced (sizesFrom z) y t) _ refl
-    (wrote (cellsFit z o) _ t t′ (h .result) (h .table)) k (p .0) (p .1)
+    (wrote (cellsFit z o) _ t t′ (h .result) (h .written)) k (p .0) (p .1)
 
 pub acceptedInC : AcceptedInC
 acceptedInC =

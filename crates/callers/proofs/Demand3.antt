@@ -11,7 +11,6 @@ use lib.ListN.{length, getD, take, drop, length-map, length-take, List·getD-eq-
 use lib.Seq.{take-take, take-at, getD-take, getD-drop}
 use Rattle.bound.specs.Axes.{ranges}
 use Rattle.engine.specs.Engine.{largerCount}
-use Rattle.exports.specs.SessionCalls.{openFits, OpenCall}
 use Rattle.file.specs.Accepted.{Accepted}
 use Rattle.fields.specs.File.{sizesOf}
 use Rattle.grid.specs.Grid.{widthsOf}
@@ -22,6 +21,7 @@ use Rattle.layouts.specs.Statement.{Held}
 use Rattle.layouts.proofs.Answers.{answersAsWords}
 use Rattle.layouts.proofs.Sessions.{sessionsAsWords, position-next, mark-last, file-widths}
 use Rattle.places.proofs.LastAxis.{below-length}
+use Rattle.session_calls.specs.SessionCalls.{openFits, OpenCall}
 use Rattle.sessions.specs.Calls.{Call, answerTo, sessionAfter, IsRefused as RefusedAnswer, IsVerdict}
 use Rattle.sessions.specs.Demand3.{stop, stopVector, ShowsFirst, Settled, MarkOf, start, Whole}
 use Rattle.sessions.specs.Session.{pairRefusal, opened}

@@ -12,14 +12,14 @@ use native.Mathlib.Omega.{arith}
 use lib.Dec.{eqb}
 use lib.ListN.{length}
 use borrow.Author.Tests.{eq-eqb, ne-eqb, eqb-false, not-true}
-use Rattle.exports.specs.Layout.{has, returned}
-use Rattle.exports.specs.SessionCalls.{continueFits}
 use Rattle.layouts.specs.AnswerWords.{kindWord, answerWords}
+use Rattle.layouts.specs.Layout.{has, returned}
 use Rattle.layouts.specs.Lengths.{word, atNumber, atKind, atRun, answerLength}
 use Rattle.layouts.specs.SessionWords.{sessionWords, sessionFits, sessionFrom}
 use Rattle.layouts.specs.Statement.{Held}
 use Rattle.layouts.proofs.Sessions.{sessionsAsWords}
 use Rattle.search.proofs.Search.{true-or-false}
+use Rattle.session_calls.specs.SessionCalls.{continueFits}
 use Rattle.sessions.specs.Calls.{Call, answerTo, sessionAfter, answers, acceptedBudget, budgets as acceptedBudgets, vectorsRun, Each as EachAnswer, IsRefused as RefusedAnswer}
 use Rattle.sessions.specs.Demand3.{OwnFiles as OwnCall, Allowed as AllowedCalls}
 use Rattle.sessions.specs.Session.{continued}

@@ -11,18 +11,17 @@ use lib.Dec.{eqb}
 use lib.ListN.{length, replicate}
 use borrow.Author.Tests.{ne-eqb}
 use Rattle.evaluate.specs.Evaluate.{refusalAt, accepts, evaluatedAt, scratchAfter}
-use Rattle.exports.specs.FileCalls.{EvaluateCall}
-use Rattle.exports.specs.Layout.{has, returned, leaves}
-use Rattle.exports.specs.ReportCalls.{reportFits}
-use Rattle.exports.specs.SessionCalls.{openFits, OpenCall, continueFits, continuing, ContinueCall}
-use Rattle.exports.specs.TableCalls.{cellsFit, TableCall, DifferenceCall, SumCall}
-use Rattle.exports.specs.Words.{operationsLength, operationWords, boundLength, boundWords, gridLength, gridWords, evaluateLength, evaluateWords}
 use Rattle.file.specs.Check.{refusalOf}
+use Rattle.file_calls.specs.FileCalls.{EvaluateCall, operationsLength, operationWords, evaluateLength, evaluateWords}
+use Rattle.grid_calls.specs.GridCalls.{boundLength, boundWords, gridLength, gridWords}
 use Rattle.layouts.specs.AnswerWords.{refusalWords, kindWord, answerWords}
+use Rattle.layouts.specs.Layout.{has, returned, leaves}
 use Rattle.layouts.specs.Lengths.{word, atNumber, sessionLength, refusalLength, answerLength}
 use Rattle.layouts.specs.SessionWords.{markWord, sessionWords, sessionFits, sessionFrom}
 use Rattle.layouts.specs.SizeWords.{sizeWords, sizesFrom}
 use Rattle.layouts.proofs.Sessions.{sessionsAsWords}
+use Rattle.report_calls.specs.ReportCalls.{reportFits}
+use Rattle.session_calls.specs.SessionCalls.{openFits, OpenCall, continueFits, continuing, ContinueCall}
 use Rattle.sessions.specs.Calls.{Call, answerTo}
 use Rattle.sessions.specs.Session.{isRefusal, noSession, opened, continueRefusal, refusedAnswer, continued}
 use Rattle.sessions.specs.declared.Continued.{Continued}
@@ -30,6 +29,7 @@ use Rattle.sessions.specs.declared.Session.{Session}
 use Rattle.sessions.proofs.Cases.{scratch-refused}
 use Rattle.sessions.proofs.Step.{kept, answer-refusal}
 use Rattle.sizes.specs.declared.Refusal.{Refusal}
+use Rattle.table_calls.specs.TableCalls.{cellsFit, TableCall, DifferenceCall, SumCall}
 use Rattle.tables.specs.Tables.{tableRefusal, cellsRefusal, madeTable, tableScratch, differenced, summedUp}
 use Rattle.callers.specs.RefusedInC.{Refused, NotAccepted, ContinueRefused, OpenRefused, EvaluateRefused, TableRefused, DifferenceRefused, SumRefused, RefusedInC}
 
@@ -232,10 +232,10 @@ module _ (z x y o : List ℕ) (r : ℕ) (y′ o′ : List ℕ) where
   module _ (h : DifferenceCall z x y o r y′ o′) where
     difference-table : NotAccepted r o′ → y′ ≡ y
     unfolding differenced
-    difference-table (inl e) = h .table ∙ rw (cells-wrong (h .result) e)
+    difference-table (inl e) = h .written ∙ rw (cells-wrong (h .result) e)
     difference-table (inr q) =
         let l = cells-laid (h .result) q in
-        h .table ∙ rw (l, cells-refused l (h .out) q)
+        h .written ∙ rw (l, cells-refused l (h .out) q)
 
     pub difference-kept : DifferenceRefused y o r y′ o′
     difference-kept = record { wrong = λ e. h .out ∙ rw (cells-wrong (h .result) e); table = difference-table }
@@ -243,10 +243,10 @@ module _ (z x y o : List ℕ) (r : ℕ) (y′ o′ : List ℕ) where
   module _ (h : SumCall z x y o r y′ o′) where
     sum-outputs : NotAccepted r o′ → y′ ≡ y
     unfolding summedUp
-    sum-outputs (inl e) = h .outputs ∙ rw (cells-wrong (h .result) e)
+    sum-outputs (inl e) = h .written ∙ rw (cells-wrong (h .result) e)
     sum-outputs (inr q) =
         let l = cells-laid (h .result) q in
-        h .outputs ∙ rw (l, cells-refused l (h .out) q)
+        h .written ∙ rw (l, cells-refused l (h .out) q)
 
     pub sum-kept : SumRefused y o r y′ o′
     sum-kept = record { wrong = λ e. h .out ∙ rw (cells-wrong (h .result) e); outputs = sum-outputs }

@@ -8,21 +8,22 @@ use Prim.Native.Nat.{ℕ, _≤_}
 use native.Mathlib.Omega.{arith}
 use lib.ListN.{length, take, drop, length-take, length-drop, take-append-drop}
 use lib.Seq.{take-append-le}
-use Rattle.exports.specs.ReportCalls.{reportFits, reportText, ReportCall}
-use Rattle.exports.specs.SessionCalls.{openFits, continueFits}
 use Rattle.fields.specs.File.{sizesOf}
 use Rattle.layouts.specs.AnswerWords.{kindFrom, answerWords, answerFits, answerFrom}
 use Rattle.layouts.specs.Lengths.{word, atNumber}
 use Rattle.layouts.specs.SessionWords.{sessionFrom}
 use Rattle.layouts.proofs.Answers.{answersAsWords}
 use Rattle.layouts.proofs.Sessions.{sessionsAsWords}
-use Rattle.report.specs.Claims.{differWords}
-use Rattle.report.specs.Report.{reportOf, printed}
 use Rattle.layouts.proofs.Told.{answer-told, answer-fits}
-use Rattle.report.proofs.Texts.{report-spent}
-use Rattle.report.proofs.InFull.{reportedInFull, refusedReported}
-use Rattle.report.proofs.Printed.{refusedText}
-use Rattle.report.proofs.Shown.{noText, shownAsIs}
+use Rattle.printed.specs.Claims.{differWords}
+use Rattle.printed.specs.Report.{reportOf, printed}
+use Rattle.printed.proofs.InFull.{reportedInFull, refusedReported}
+use Rattle.printed.proofs.Printed.{refusedText}
+use Rattle.printed.proofs.Shown.{noText, shownAsIs}
+use Rattle.printed.proofs.Texts.{report-spent}
+use Rattle.report_calls.specs.ReportCalls.{reportFits, reportText, ReportCall}
+use Rattle.search.proofs.Search.{true-or-false}
+use Rattle.session_calls.specs.SessionCalls.{openFits, continueFits}
 use Rattle.sessions.specs.Calls.{answerTo, sessionAfter, IsVerdict}
 use Rattle.sessions.specs.Demand3.{start}
 use Rattle.sessions.specs.Session.{opened, continued}
@@ -30,7 +31,6 @@ use Rattle.sessions.specs.declared.Kind.{Kind}
 use Rattle.sessions.specs.declared.Kind.the-variants.{Refused, Spent, Equivalent, Differs}
 use Rattle.sessions.specs.declared.Session.{Session}
 use Rattle.sessions.proofs.Pair.{pair-accepted, comparable}
-use Rattle.search.proofs.Search.{true-or-false}
 use Rattle.callers.specs.Made.{Made, runs}
 use Rattle.callers.specs.ReportInC.{ShownInC, ReportInC, RefusedReportInC, NoText, Stands, RefusedTextInC, VerdictTextInC, NoTextInC}
 use Rattle.callers.proofs.Demand3.{number-0, start-words, verdict-told}

@@ -12,20 +12,19 @@ use lib.ListN.{length}
 use borrow.Author.Tests.{eq-eqb, ne-eqb, eqb-true, not-false}
 use Rattle.engine.specs.Engine.{largerCount}
 use Rattle.evaluate.specs.Evaluate.{shortScratch, badVector, refusalAt, evaluatedAt}
-use Rattle.exports.specs.FileCalls.{CheckCall, BoundCall, GridCall, EvaluateCall}
-use Rattle.exports.specs.SessionCalls.{openFits, OpenCall, continueFits, continuing, ContinueCall}
-use Rattle.exports.specs.TableCalls.{cellsFit, TableCall, DifferenceCall, SumCall}
-use Rattle.exports.specs.Layout.{has}
-use Rattle.exports.specs.Words.{boundWords, gridWords, noGrid, gridAsWords}
-use Rattle.exports.proofs.Answered.{grid-refused, grid-accepted}
 use Rattle.file.specs.Check.{fileNumber, refusalOf}
 use Rattle.fields.specs.File.{sizesOf, stepCount}
+use Rattle.file_calls.specs.FileCalls.{CheckCall, EvaluateCall}
 use Rattle.grid.specs.Grid.{gridSize, gridOf, tooLarge}
+use Rattle.grid_calls.specs.GridCalls.{BoundCall, GridCall, boundWords, gridWords, noGrid, gridAsWords}
+use Rattle.grid_calls.proofs.Answered.{grid-refused, grid-accepted}
 use Rattle.layouts.specs.AnswerWords.{refusalWords, kindWord, answerWords}
+use Rattle.layouts.specs.Layout.{has}
 use Rattle.layouts.specs.Lengths.{word}
 use Rattle.layouts.specs.SessionWords.{sessionFrom}
 use Rattle.layouts.specs.SizeWords.{sizesFrom}
 use Rattle.search.proofs.Search.{true-or-false}
+use Rattle.session_calls.specs.SessionCalls.{openFits, OpenCall, continueFits, continuing, ContinueCall}
 use Rattle.sessions.specs.Session.{sameSizes, isRefusal, pairRefusal, misplaced, isClosed, stateRefusal, opened, continueRefusal, refusedAnswer, advanced, continued}
 use Rattle.sessions.specs.declared.Answer.{Answer}
 use Rattle.sessions.specs.declared.Session.{Session}
@@ -33,6 +32,7 @@ use Rattle.sessions.proofs.Step.{progress-accepts}
 use Rattle.sizes.specs.Sizes.{within, badOutput, badInputs, badWidths, refusedBy, accepted}
 use Rattle.sizes.specs.declared.Refusal.{Refusal}
 use Rattle.sizes.specs.declared.Sizes.{Sizes}
+use Rattle.table_calls.specs.TableCalls.{cellsFit, TableCall, DifferenceCall, SumCall}
 use Rattle.tables.specs.Tables.{shortSlice, badCells, tableRefusal, cellsRefusal}
 use Rattle.callers.specs.SaidInC.{Says, boundRefusal, SaidInC}
 use Rattle.callers.proofs.Accepted.{wrote}

@@ -7,13 +7,13 @@ use native.Mathlib.Omega.{arith}
 use lib.Dec.{leb, eqb}
 use lib.ListN.{length}
 use borrow.Author.Tests.{leb-true, le-leb, eqb-true, eq-eqb}
-use Rattle.exports.specs.Layout.{has, returned}
-use Rattle.exports.specs.ReportCalls.{reportFits}
-use Rattle.exports.specs.SessionCalls.{openFits, continueFits}
-use Rattle.exports.specs.TableCalls.{cellsFit}
+use Rattle.layouts.specs.Layout.{has, returned}
 use Rattle.layouts.specs.SessionWords.{sessionFits}
 use Rattle.layouts.specs.SizeWords.{sizesFit}
 use Rattle.layouts.proofs.Told.{sizes-told, sizes-fit, session-told, session-fits}
+use Rattle.report_calls.specs.ReportCalls.{reportFits}
+use Rattle.session_calls.specs.SessionCalls.{openFits, continueFits}
+use Rattle.table_calls.specs.TableCalls.{cellsFit}
 use Rattle.callers.specs.TakenInC.{Takes, CellsLaid, OpenLaid, ContinueLaid, ReportLaid, TakenInC}
 
 -- what a test that means P decides

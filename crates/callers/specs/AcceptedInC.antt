@@ -40,16 +40,17 @@ use Rattle.bound.specs.Bound.{IsBound}
 use Rattle.differences.specs.Table.{listed}
 use Rattle.engine.specs.Engine.{largerCount}
 use Rattle.evaluate.specs.Evaluate.{outputOf}
-use Rattle.exports.specs.FileCalls.{CheckCall, OperationsCall, BoundCall, GridCall, EvaluateCall}
-use Rattle.exports.specs.SessionCalls.{ContinueCall}
-use Rattle.exports.specs.TableCalls.{TableCall, DifferenceCall, SumCall}
 use Rattle.file.specs.Accepted.{Accepted}
 use Rattle.file.specs.Check.{fileNumber}
 use Rattle.fields.specs.File.{sizesOf, stepCount}
+use Rattle.file_calls.specs.FileCalls.{CheckCall, OperationsCall, EvaluateCall}
 use Rattle.grid.specs.Grid.{axesOf, gridSize}
+use Rattle.grid_calls.specs.GridCalls.{BoundCall, GridCall}
 use Rattle.layouts.specs.Lengths.{word}
 use Rattle.layouts.specs.SizeWords.{sizeWords, sizesFrom}
+use Rattle.session_calls.specs.SessionCalls.{ContinueCall}
 use Rattle.sizes.specs.declared.Sizes.{Sizes}
+use Rattle.table_calls.specs.TableCalls.{TableCall, DifferenceCall, SumCall}
 use Rattle.tables.specs.Tables.{tableOfFile}
 
 pub record Checked (f o′ : List ℕ) : Type 0 where

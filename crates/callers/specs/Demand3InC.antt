@@ -24,12 +24,12 @@ use Prim.Native.Nat.{ℕ, _+_, _-_, _<_, _≤_, min}
 use lib.ListN.{length, take, drop}
 use Rattle.engine.specs.Engine.{largerCount}
 use Rattle.evaluate.specs.Evaluate.{outputOf}
-use Rattle.exports.specs.Layout.{has, returned}
-use Rattle.exports.specs.SessionCalls.{OpenCall}
 use Rattle.fields.specs.File.{sizesOf}
 use Rattle.fields.specs.Steps.{stepsOf}
 use Rattle.grid.specs.Grid.{widthsOf, gridSize}
+use Rattle.layouts.specs.Layout.{has, returned}
 use Rattle.layouts.specs.Lengths.{word, atNumber, atPosition, atMark, atVector, atOutput₁, atOutput₂, answerLength}
+use Rattle.session_calls.specs.SessionCalls.{OpenCall}
 use Rattle.sessions.specs.Demand3.{stop, StopInRange, stopVector, FullWidth}
 use Rattle.sizes.specs.Sizes.{maxInputs}
 use Rattle.theorem.specs.Comparison.{IsFirst}

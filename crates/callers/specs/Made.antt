@@ -17,8 +17,8 @@ use mathlib.Core.Logic.{_⊎_}
 use mathlib.Core.Path.{_≡_}
 use Prim.Native.Nat.{ℕ, _+_}
 use lib.Dec.{eqb}
-use Rattle.exports.specs.SessionCalls.{ContinueCall}
 use Rattle.layouts.specs.Lengths.{word, atNumber, atKind, atRun}
+use Rattle.session_calls.specs.SessionCalls.{ContinueCall}
 use Rattle.callers.specs.RefusedInC.{Refused}
 
 pub record Made : Type 0 where

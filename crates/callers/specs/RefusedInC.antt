@@ -16,15 +16,15 @@ use mathlib.Core.Path.{_≡_}
 use Prim.Native.Nat.{ℕ, _-_}
 use lib.ListN.{length, replicate}
 use Rattle.evaluate.specs.Evaluate.{refusalAt}
-use Rattle.exports.specs.FileCalls.{CheckCall, OperationsCall, BoundCall, GridCall, EvaluateCall}
-use Rattle.exports.specs.ReportCalls.{ReportCall}
-use Rattle.exports.specs.SessionCalls.{OpenCall, ContinueCall}
-use Rattle.exports.specs.TableCalls.{TableCall, DifferenceCall, SumCall}
-use Rattle.exports.specs.Words.{evaluateLength}
+use Rattle.file_calls.specs.FileCalls.{CheckCall, OperationsCall, EvaluateCall, evaluateLength}
+use Rattle.grid_calls.specs.GridCalls.{BoundCall, GridCall}
 use Rattle.layouts.specs.AnswerWords.{refusalWords}
 use Rattle.layouts.specs.Lengths.{word, atNumber, sessionLength, refusalLength, answerLength}
 use Rattle.layouts.specs.SessionWords.{sessionFrom}
+use Rattle.report_calls.specs.ReportCalls.{ReportCall}
+use Rattle.session_calls.specs.SessionCalls.{OpenCall, ContinueCall}
 use Rattle.sessions.specs.Session.{continueRefusal}
+use Rattle.table_calls.specs.TableCalls.{TableCall, DifferenceCall, SumCall}
 
 pub record Refused (r : ℕ) (o : List ℕ) : Type 0 where
   pub laid : r ≡ 1

@@ -19,13 +19,13 @@ use mathlib.Core.Logic.{_⊎_}
 use mathlib.Core.Path.{_≡_}
 use Prim.Native.Nat.{ℕ, _<_}
 use lib.ListN.{length, take, drop}
-use Rattle.exports.specs.ReportCalls.{ReportCall}
-use Rattle.exports.specs.SessionCalls.{OpenCall, ContinueCall}
 use Rattle.fields.specs.File.{sizesOf}
 use Rattle.layouts.specs.Lengths.{word, atNumber}
-use Rattle.report.specs.Claims.{wordsOf, differWords, ThreeLines, Refuses}
-use Rattle.report.specs.Report.{printed}
-use Rattle.report.specs.Text.{ascii}
+use Rattle.printed.specs.Claims.{differWords, ThreeLines, Refuses}
+use Rattle.printed.specs.Report.{printed}
+use Rattle.text.specs.Text.{ascii, wordsOf}
+use Rattle.report_calls.specs.ReportCalls.{ReportCall}
+use Rattle.session_calls.specs.SessionCalls.{OpenCall, ContinueCall}
 use Rattle.sessions.specs.Session.{opened}
 use Rattle.callers.specs.Made.{Made, Chain, Each, GivesVerdict, Allowed, runs}
 

@@ -9,16 +9,17 @@ use mathlib.Core.Path.{_≡_}
 use Prim.Native.Nat.{ℕ}
 use lib.ListN.{length}
 use Rattle.evaluate.specs.Evaluate.{refusalAt}
-use Rattle.exports.specs.FileCalls.{CheckCall, BoundCall, GridCall, EvaluateCall}
-use Rattle.exports.specs.SessionCalls.{OpenCall, ContinueCall}
-use Rattle.exports.specs.TableCalls.{TableCall, DifferenceCall, SumCall}
 use Rattle.file.specs.Check.{refusalOf}
+use Rattle.file_calls.specs.FileCalls.{CheckCall, EvaluateCall}
+use Rattle.grid_calls.specs.GridCalls.{BoundCall, GridCall}
 use Rattle.layouts.specs.Lengths.{word}
 use Rattle.layouts.specs.SessionWords.{sessionFrom}
 use Rattle.layouts.specs.SizeWords.{sizesFrom}
+use Rattle.session_calls.specs.SessionCalls.{OpenCall, ContinueCall}
 use Rattle.sessions.specs.Session.{opened, continueRefusal}
 use Rattle.sizes.specs.Sizes.{within, refusedBy, accepted}
 use Rattle.sizes.specs.declared.Refusal.{Refusal}
+use Rattle.table_calls.specs.TableCalls.{TableCall, DifferenceCall, SumCall}
 use Rattle.tables.specs.Tables.{tableRefusal, cellsRefusal}
 
 pub record Says (q : Refusal) (o : List ℕ) : Type 0 where

@@ -14,11 +14,12 @@ use mathlib.Core.Logic.{_↔_}
 use mathlib.Core.Path.{_≡_}
 use Prim.Native.Nat.{ℕ, _≤_, _<_}
 use lib.ListN.{length}
-use Rattle.exports.specs.FileCalls.{CheckCall, OperationsCall, BoundCall, GridCall, EvaluateCall}
-use Rattle.exports.specs.ReportCalls.{ReportCall}
-use Rattle.exports.specs.SessionCalls.{OpenCall, ContinueCall}
-use Rattle.exports.specs.TableCalls.{TableCall, DifferenceCall, SumCall}
+use Rattle.file_calls.specs.FileCalls.{CheckCall, OperationsCall, EvaluateCall}
+use Rattle.grid_calls.specs.GridCalls.{BoundCall, GridCall}
 use Rattle.layouts.specs.Lengths.{word}
+use Rattle.report_calls.specs.ReportCalls.{ReportCall}
+use Rattle.session_calls.specs.SessionCalls.{OpenCall, ContinueCall}
+use Rattle.table_calls.specs.TableCalls.{TableCall, DifferenceCall, SumCall}
 
 pub record Takes (r : ℕ) (P : Type 0) : Type 0 where
   pub taken : (r ≡ 1) ↔ P

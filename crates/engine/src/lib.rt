@@ -19,6 +19,7 @@ ghost use Rattle.engine.specs.Lengths.{short, middle, longRows};
 
 // The most steps of a short file, and of one of middle length.
 const SHORT: usize = 64;
+
 const MIDDLE: usize = 256;
 
 // The words of the rows of long files: all steps in few lanes.
@@ -26,13 +27,7 @@ const LONG_ROWS: usize = FEW_LANES * STEPS;
 
 // The first place of the span at which the outputs differ, or its end where there is none, in LANES lanes, for short files, which have rows of their own
 // each. The rows are set up here, where lanes are really run.
-fn in_short_lanes(
-    file1: &[u8],
-    file2: &[u8],
-    plan: Plan,
-    span: Span,
-    scratch: &mut [u64],
-) -> u64
+fn in_short_lanes(file1: &[u8], file2: &[u8], plan: Plan, span: Span, scratch: &mut [u64]) -> u64
     requires { ⌜ Within (now file1) (now file2) plan span (now scratch) ⌝ }
     requires { ⌜ (plan .n1 ≤ short) × (plan .n2 ≤ short) ⌝ }
     ensures { λ r. ⌜
@@ -63,13 +58,7 @@ fn in_short_lanes(
 }
 
 // The same for files of middle length, which are run in turn in the same rows.
-fn in_middle_lanes(
-    file1: &[u8],
-    file2: &[u8],
-    plan: Plan,
-    span: Span,
-    scratch: &mut [u64],
-) -> u64
+fn in_middle_lanes(file1: &[u8], file2: &[u8], plan: Plan, span: Span, scratch: &mut [u64]) -> u64
     requires { ⌜ Within (now file1) (now file2) plan span (now scratch) ⌝ }
     requires { ⌜ (plan .n1 ≤ middle) × (plan .n2 ≤ middle) ⌝ }
     ensures { λ r. ⌜

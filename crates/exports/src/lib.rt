@@ -1,51 +1,37 @@
 // The C interface: every call of the library on pointers, lengths and words. Each returns 1 where its layout is right, as the header gives
-// it, and 0, with nothing touched, where it is not.
-use bound::bound;
-use evaluate::evaluate;
-use fields::read_sizes;
-use file::check;
-use file::operations;
-use grid::grid_of;
-use layouts::MAX_INPUTS;
-use layouts::REFUSAL_LENGTH;
-use layouts::answer_words::put_refusal;
-use layouts::copy_words;
-use sizes::within;
-ghost use Rattle.exports.specs.FileCalls.{
+// it, and 0, with nothing touched, where it is not. Sizes are words: m, d and the word lengths; a call given sizes of another length, or with
+// a word that does not fit a byte, returns 0. A session is words: the sizes, position and mark. Where it has another length, a size does not
+// fit a byte or the mark is not 0 to 2, continuing returns 0. Opening takes any words of that length and overwrites them.
+use file_calls::check_call;
+use file_calls::evaluate_call;
+use file_calls::operations_call;
+use grid_calls::bound_call;
+use grid_calls::grid_call;
+use report_calls::report_call;
+use session_calls::continue_call;
+use session_calls::open_call;
+use table_calls::table_call;
+use table_calls::transform_call;
+ghost use Rattle.file_calls.specs.FileCalls.{
   CheckCall,
   OperationsCall,
-  BoundCall,
-  GridCall,
   EvaluateCall,
 };
-
-mod report_calls;
-mod session_calls;
-mod table_calls;
-
-// The words of the answer about operation bytes: start and length.
-const OPERATIONS_LENGTH: usize = 2;
-
-// The words of the answer about a bound: the refusal and L(m).
-const BOUND_LENGTH: usize = REFUSAL_LENGTH + 1;
-
-// The words of the answer about a grid: the refusal, the axes and G.
-const GRID_LENGTH: usize = REFUSAL_LENGTH + MAX_INPUTS + 1;
-
-// The words of the answer of an evaluation: the refusal and the output.
-const EVALUATE_LENGTH: usize = REFUSAL_LENGTH + 1;
+ghost use Rattle.grid_calls.specs.GridCalls.{BoundCall, GridCall};
+ghost use Rattle.report_calls.specs.ReportCalls.{ReportCall};
+ghost use Rattle.session_calls.specs.SessionCalls.{OpenCall, ContinueCall};
+ghost use Rattle.table_calls.specs.TableCalls.{
+  TableCall,
+  DifferenceCall,
+  SumCall,
+};
 
 // Whether a file is accepted: out gets the refusal.
 #[no_mangle]
 pub extern "C" fn corkbingo_check(file: &[u8], out: &mut [u64]) -> u32
     ensures { λ r. ⌜ CheckCall (now (file .entry)) (now (out .entry)) r (now (out .exit)) ⌝ }
 {
-    if out.len() != REFUSAL_LENGTH {
-        return 0;
-    }
-    let r = check(file);
-    put_refusal(out, r);
-    1
+    check_call(file, out)
 }
 
 // Where the operation bytes stand in the file: out gets the start and the length of their stretch, 0 and 0 of a refused file.
@@ -53,13 +39,7 @@ pub extern "C" fn corkbingo_check(file: &[u8], out: &mut [u64]) -> u32
 pub extern "C" fn corkbingo_operations(file: &[u8], out: &mut [u64]) -> u32
     ensures { λ r. ⌜ OperationsCall (now (file .entry)) (now (out .entry)) r (now (out .exit)) ⌝ }
 {
-    if out.len() != OPERATIONS_LENGTH {
-        return 0;
-    }
-    let n = operations(file).len() as u64;
-    let start = if n == 0 { 0 } else { 12 };
-    copy_words(out, &[start, n]);
-    1
+    operations_call(file, out)
 }
 
 // The bound L(m): out gets the refusal, by 2 where m is not 1 to 64, and L(m).
@@ -67,15 +47,7 @@ pub extern "C" fn corkbingo_operations(file: &[u8], out: &mut [u64]) -> u32
 pub extern "C" fn corkbingo_bound(m: u64, out: &mut [u64]) -> u32
     ensures { λ r. ⌜ BoundCall m (now (out .entry)) r (now (out .exit)) ⌝ }
 {
-    if out.len() != BOUND_LENGTH {
-        return 0;
-    }
-    if !within(1, 64, m) {
-        copy_words(out, &[2, 0, 0, 0]);
-        return 1;
-    }
-    copy_words(out, &[0, 0, 0, bound(m)]);
-    1
+    bound_call(m, out)
 }
 
 // The grid of a file: out gets the refusal, the axes, 0 past d, and G.
@@ -83,35 +55,7 @@ pub extern "C" fn corkbingo_bound(m: u64, out: &mut [u64]) -> u32
 pub extern "C" fn corkbingo_grid(file: &[u8], out: &mut [u64]) -> u32
     ensures { λ r. ⌜ GridCall (now (file .entry)) (now (out .entry)) r (now (out .exit)) ⌝ }
 {
-    if out.len() != GRID_LENGTH {
-        return 0;
-    }
-    let r = check(file);
-    let number = r.number;
-    if number != 0 {
-        copy_words(out, &[number, r.file, r.step, 0, 0, 0, 0, 0, 0, 0, 0, 0]);
-        return 1;
-    }
-    let g = grid_of(read_sizes(file));
-    let u = g.axes;
-    copy_words(
-        out,
-        &[
-            0,
-            0,
-            0,
-            u[0],
-            u[1],
-            u[2],
-            u[3],
-            u[4],
-            u[5],
-            u[6],
-            u[7],
-            g.size,
-        ],
-    );
-    1
+    grid_call(file, out)
 }
 
 // The output of a file at a vector: out gets the refusal and the output. Of the scratch slice the first N entries are zero afterwards where
@@ -128,11 +72,111 @@ pub extern "C" fn corkbingo_evaluate(
         (now (scratch .exit)) (now (out .exit))
         ⌝ }
 {
-    if out.len() != EVALUATE_LENGTH {
-        return 0;
-    }
-    let e = evaluate(file, vector, scratch);
-    let r = e.refusal;
-    copy_words(out, &[r.number, r.file, r.step, e.output]);
-    1
+    evaluate_call(file, vector, scratch, out)
+}
+
+// The table of a file: out gets the refusal. Where the call is accepted, the first G table entries become the table, and the first N scratch
+// entries are zero afterwards; nothing else is touched.
+#[no_mangle]
+pub extern "C" fn corkbingo_table(
+    file: &[u8],
+    scratch: &mut [u64],
+    table: &mut [u64],
+    out: &mut [u64],
+) -> u32
+    ensures { λ r. ⌜
+        TableCall (now (file .entry)) (now (scratch .entry)) (now (table .entry)) (now (out .entry)) r
+        (now (scratch .exit)) (now (table .exit)) (now (out .exit))
+        ⌝ }
+{
+    table_call(file, scratch, table, out)
+}
+
+// The table of given outputs: out gets the refusal. Where the call is accepted, the first G table entries become the table; nothing else is
+// touched.
+#[no_mangle]
+pub extern "C" fn corkbingo_difference(
+    sizes: &[u64],
+    outputs: &[u64],
+    table: &mut [u64],
+    out: &mut [u64],
+) -> u32
+    ensures { λ r. ⌜
+        DifferenceCall (now (sizes .entry)) (now (outputs .entry)) (now (table .entry)) (now (out .entry)) r
+        (now (table .exit)) (now (out .exit))
+        ⌝ }
+{
+    transform_call(sizes, outputs, table, out, false)
+}
+
+// The outputs that a table sums to: out gets the refusal. Where the call is accepted, the first G entries of the outputs become the sums;
+// nothing else is touched.
+#[no_mangle]
+pub extern "C" fn corkbingo_sum(
+    sizes: &[u64],
+    table: &[u64],
+    outputs: &mut [u64],
+    out: &mut [u64],
+) -> u32
+    ensures { λ r. ⌜
+        SumCall (now (sizes .entry)) (now (table .entry)) (now (outputs .entry)) (now (out .entry)) r
+        (now (outputs .exit)) (now (out .exit))
+        ⌝ }
+{
+    transform_call(sizes, table, outputs, out, true)
+}
+
+// Opens a session on two files: session gets the session, and out the refusal.
+#[no_mangle]
+pub extern "C" fn corkbingo_open(
+    file1: &[u8],
+    file2: &[u8],
+    session: &mut [u64],
+    out: &mut [u64],
+) -> u32
+    ensures { λ r. ⌜
+        OpenCall (now (file1 .entry)) (now (file2 .entry)) (now (session .entry)) (now (out .entry)) r
+        (now (session .exit)) (now (out .exit))
+        ⌝ }
+{
+    open_call(file1, file2, session, out)
+}
+
+// Continues a session on two files under a budget: session goes in and out, and answer gets the answer. Of the scratch slice the first
+// entries, as many as the larger N, are zero afterwards where the call is accepted; nothing else is touched.
+#[no_mangle]
+pub extern "C" fn corkbingo_continue(
+    file1: &[u8],
+    file2: &[u8],
+    session: &mut [u64],
+    budget: u64,
+    scratch: &mut [u64],
+    answer: &mut [u64],
+) -> u32
+    ensures { λ r. ⌜
+        ContinueCall (now (file1 .entry)) (now (file2 .entry)) budget
+        (now (session .entry)) (now (scratch .entry)) (now (answer .entry)) r
+        (now (session .exit)) (now (scratch .exit)) (now (answer .exit))
+        ⌝ }
+{
+    continue_call(file1, file2, session, budget, scratch, answer)
+}
+
+// Writes the text of a continue call's answer, given as words, at the start of the text slice, and its count of bytes into out; `run` is the vectors
+// run over all calls. An answer of no kind has no text. Nothing else is touched.
+#[no_mangle]
+pub extern "C" fn corkbingo_report(
+    file1: &[u8],
+    file2: &[u8],
+    answer: &[u64],
+    run: u64,
+    text: &mut [u8],
+    out: &mut [u64],
+) -> u32
+    ensures { λ r. ⌜
+        ReportCall (now (file1 .entry)) (now (file2 .entry)) (now (answer .entry)) run
+        (now (text .entry)) (now (out .entry)) r (now (text .exit)) (now (out .exit))
+        ⌝ }
+{
+    report_call(file1, file2, answer, run, text, out)
 }

@@ -4,3 +4,4 @@ pub mod Offsets
 pub mod Sessions
 pub mod Sizes
 pub mod Told
+pub mod Written

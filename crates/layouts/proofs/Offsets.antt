@@ -6,6 +6,7 @@ use lib.ListN.{length-append}
 use lib.Seq.{take-all}
 use Rattle.sessions.specs.declared.Answer.{Answer}
 use Rattle.sessions.specs.declared.Session.{Session}
+use Rattle.sizes.specs.Sizes.{maxInputs}
 use Rattle.sizes.specs.declared.Refusal.{Refusal}
 use Rattle.sizes.specs.declared.Sizes.{Sizes}
 use Rattle.layouts.specs.AnswerWords.{kindWord, answerWords}
@@ -20,7 +21,7 @@ refusal-places r = record { count = refl; number = refl; file = refl; step = ref
 sizes-places : (z : Sizes) → WholeWidths z → SizesPlaces z
 unfolding sizeWords
 sizes-places z e =
-    record { count = omega (arith, e); m = refl; d = refl; widths = take-all 8 (z .widths) (omega (arith, e)) }
+    record { count = omega (arith, e); m = refl; d = refl; widths = take-all maxInputs (z .widths) (omega (arith, e)) }
 
 session-places : (z : Session) → WholeWidths (z .sizes) → SessionPlaces z
 unfolding sessionWords sizeWords
@@ -29,9 +30,9 @@ session-places z e =
       count = simp length-append (omega (arith, e));
       m = refl;
       d = refl;
-      widths = front 8 (z .sizes .widths) (z .position) (markWord (z .mark)) e;
-      position = next 8 (z .sizes .widths) (z .position) (markWord (z .mark)) e;
-      mark = last 8 (z .sizes .widths) (z .position) (markWord (z .mark)) e;
+      widths = front maxInputs (z .sizes .widths) (z .position) (markWord (z .mark)) e;
+      position = next maxInputs (z .sizes .widths) (z .position) (markWord (z .mark)) e;
+      mark = last maxInputs (z .sizes .widths) (z .position) (markWord (z .mark)) e;
     }
 
 answer-places : (a : Answer) → WholeVector a → AnswerPlaces a
@@ -44,9 +45,9 @@ answer-places a e =
       step = refl;
       kind = refl;
       run = refl;
-      vector = front 8 (a .vector) (a .output1) (a .output2) e;
-      output₁ = next 8 (a .vector) (a .output1) (a .output2) e;
-      output₂ = last 8 (a .vector) (a .output1) (a .output2) e;
+      vector = front maxInputs (a .vector) (a .output1) (a .output2) e;
+      output₁ = next maxInputs (a .vector) (a .output1) (a .output2) e;
+      output₂ = last maxInputs (a .vector) (a .output1) (a .output2) e;
     }
 
 pub offsets : Offsets

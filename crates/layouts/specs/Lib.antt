@@ -1,4 +1,5 @@
 pub mod AnswerWords
+pub mod Layout
 pub mod Lengths
 pub mod SessionWords
 pub mod SizeWords

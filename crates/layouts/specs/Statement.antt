@@ -80,13 +80,13 @@ pub record SizesPlaces (z : Sizes) : Type 0 where
   pub count : length (sizeWords z) ≡ 10
   pub m : word (sizeWords z) 0 ≡ z .m
   pub d : word (sizeWords z) 1 ≡ z .d
-  pub widths : take 8 (drop 2 (sizeWords z)) ≡ z .widths
+  pub widths : take maxInputs (drop 2 (sizeWords z)) ≡ z .widths
 
 pub record SessionPlaces (z : Session) : Type 0 where
   pub count : length (sessionWords z) ≡ 12
   pub m : word (sessionWords z) 0 ≡ z .sizes .m
   pub d : word (sessionWords z) 1 ≡ z .sizes .d
-  pub widths : take 8 (drop 2 (sessionWords z)) ≡ z .sizes .widths
+  pub widths : take maxInputs (drop 2 (sessionWords z)) ≡ z .sizes .widths
   pub position : word (sessionWords z) 10 ≡ z .position
   pub mark : word (sessionWords z) 11 ≡ markWord (z .mark)
 
@@ -97,7 +97,7 @@ pub record AnswerPlaces (a : Answer) : Type 0 where
   pub step : word (answerWords a) 2 ≡ a .refusal .step
   pub kind : word (answerWords a) 3 ≡ kindWord (a .kind)
   pub run : word (answerWords a) 4 ≡ a .run
-  pub vector : take 8 (drop 5 (answerWords a)) ≡ a .vector
+  pub vector : take maxInputs (drop 5 (answerWords a)) ≡ a .vector
   pub output₁ : word (answerWords a) 13 ≡ a .output1
   pub output₂ : word (answerWords a) 14 ≡ a .output2
 

@@ -18,7 +18,7 @@ use Rattle.fields.specs.Steps.{decoded, stepAt, stepsFrom, stepsOf}
 use Rattle.grid.specs.Grid.{axesOf, gridSize, tooLarge}
 use Rattle.integers.specs.Modulo.{remainder}
 use Rattle.places.specs.Places.{size, vectorAt}
-use Rattle.report.specs.Listings.{a·dp, b·dp}
+use Rattle.printed.specs.Listings.{a·dp, b·dp}
 use Rattle.search.specs.Search.{first, every}
 use Rattle.sessions.specs.Calls.{answerTo, answers, vectorsRun}
 use Rattle.sessions.specs.Demand3.{start, firstPlace, stop}

@@ -8,7 +8,7 @@
 use mathlib.Core.List.{List, [], _∷_}
 use Prim.Native.Nat.{ℕ}
 use lib.ListN.{getD}
-use Rattle.report.specs.Listings.{a·dp, b·dp}
+use Rattle.printed.specs.Listings.{a·dp, b·dp}
 use Rattle.sessions.specs.Session.{plainAnswer}
 use Rattle.sessions.specs.declared.Answer.{Answer}
 use Rattle.sessions.specs.declared.Kind.the-variants.{Spent, Equivalent, Differs}

@@ -1,13 +1,1 @@
-pub mod Cut
-pub mod Decimal
-pub mod Fits
-pub mod GridLine
-pub mod InFull
-pub mod Listings
-pub mod Over
-pub mod Printed
-pub mod Shown
-pub mod Spaced
 pub mod Texts
-pub mod ThreeLines
-pub mod Words

@@ -1,17 +1,15 @@
 // The text of a continue call's answer, as the comparing program prints it.
-use crate::lines::put_grid;
-use crate::lines::put_refusal;
-use crate::lines::put_run;
-use crate::lines::put_verdict;
 use fields::read_sizes;
+use lines::put_grid;
+use lines::put_refusal;
+use lines::put_run;
+use lines::put_verdict;
 use sessions::Answer;
 use sessions::Kind;
-use sessions::open_session;
-ghost use Rattle.report.specs.Report.{concluded};
-ghost use Rattle.report.specs.Writing.{Room, Put, Reported};
-
-mod lines;
-mod writing;
+use opening::open_session;
+ghost use Rattle.printed.specs.Report.{concluded};
+ghost use Rattle.report.specs.Report.{Reported};
+ghost use Rattle.text.specs.Writing.{Room, Put};
 
 // The bytes that a text slice has to have: no text is longer.
 pub const TEXT_ROOM: usize = 512;

@@ -1,6 +1,6 @@
 -- The cases of a continue call: refused or accepted, and of an accepted one by the place that the search came to. Assumes nothing.
 use mathlib.Core.Path.{_≡_, refl}
-use mathlib.Core.Bool.{true, false, not}
+use mathlib.Core.Bool.{Bool, true, false, not, cond}
 use mathlib.Core.List.{List, _++_}
 use Prim.Native.Nat.{ℕ, _+_, _-_, _<_, _≤_, min}
 use native.Mathlib.Omega.{arith}
@@ -14,7 +14,7 @@ use Rattle.grid.specs.Grid.{axesOf, gridSize}
 use Rattle.places.specs.Places.{vectorAt}
 use Rattle.search.specs.Search.{first}
 use Rattle.sizes.specs.Sizes.{refusedBy}
-use Rattle.sessions.specs.Session.{sameSizes, pairRefusal, isRefusal, misplaced, isClosed, stateRefusal, continueRefusal, refusedAnswer, plainAnswer, differsAnswer, movedTo, progress, advanced, continued, scratchAfter}
+use Rattle.sessions.specs.Session.{sameSizes, pairRefusal, isRefusal, misplaced, isClosed, stateRefusal, filesRefusal, roomRefusal, continueRefusal, refusedAnswer, plainAnswer, differsAnswer, movedTo, progress, advanced, continued, scratchAfter}
 use Rattle.sessions.specs.declared.Answer.{Answer}
 use Rattle.sessions.specs.declared.Continued.{Continued}
 use Rattle.sessions.specs.declared.Mark.{Mark}
@@ -104,3 +104,28 @@ module _ (s₁ s₂ : List ℕ) (z : Session) (B : ℕ) (scratch : List ℕ) whe
       replicate (largerCount s₁ s₂) 0 ++ drop (largerCount s₁ s₂) scratch ≡ scratchAfter s₁ s₂ z B scratch
   unfolding scratchAfter
   scratch-accepted e = rw e
+
+-- a call's refusal, in the two steps in which it is judged
+module _ (s₁ s₂ : List ℕ) (z : Session) (B len : ℕ) where
+  pub refused-by-files : isRefusal (filesRefusal s₁ s₂ B) ≡ true → continueRefusal s₁ s₂ z B len ≡ filesRefusal s₁ s₂ B
+  unfolding continueRefusal filesRefusal
+  refused-by-files r = files (eqb B 0) r
+    where
+      files :
+          (b : Bool) → isRefusal (cond b (refusedBy 11) (pairRefusal s₁ s₂)) ≡ true →
+          cond b (refusedBy 11)
+          (cond (isRefusal (pairRefusal s₁ s₂)) (pairRefusal s₁ s₂)
+          (cond (shortScratch (largerCount s₁ s₂) len) (refusedBy 12) (stateRefusal (sizesOf s₁) (gridSize (sizesOf s₁)) z)))
+          ≡ cond b (refusedBy 11) (pairRefusal s₁ s₂)
+      files true e = refl
+      files false e = rw e
+
+  pub refused-by-room : isRefusal (filesRefusal s₁ s₂ B) ≡ false → continueRefusal s₁ s₂ z B len ≡ roomRefusal s₁ s₂ z len
+  unfolding continueRefusal filesRefusal roomRefusal
+  refused-by-room r =
+      let p₁ = cond-passed (eqb B 0) (refusedBy 11) (pairRefusal s₁ s₂) (λ _. refl) r in
+      rw (p₁ .0, p₁ .1)
+
+  pub files-passed : isRefusal (filesRefusal s₁ s₂ B) ≡ false → isRefusal (pairRefusal s₁ s₂) ≡ false
+  unfolding filesRefusal
+  files-passed r = cond-passed (eqb B 0) (refusedBy 11) (pairRefusal s₁ s₂) (λ _. refl) r .1

@@ -4,15 +4,17 @@
 --   opened s₁ s₂           what opening answers
 --   misplaced G p mark     102. the position doesn't fit the mark
 --   stateRefusal           101, 102, 103
+--   filesRefusal           what a continue call is refused by before its session is looked at: 11, the files
+--   roomRefusal            and after: 12, 101, 102, 103
 --   continueRefusal        11, the files, 12, 101, 102, 103
 --   advanced               an accepted call: the session handed back and the answer
 --   continued              what continuing answers: the session handed back and the answer
 --   scratchAfter           the scratch slice after a continue call
 use mathlib.Core.Bool.{Bool, true, false, not, cond, _&&_}
-use mathlib.Core.List.{List, _++_}
+use mathlib.Core.List.{List}
 use Prim.Native.Nat.{ℕ, _+_, _-_, min}
 use lib.Dec.{leb, ltb, eqb}
-use lib.ListN.{length, getD, drop, replicate}
+use lib.ListN.{length, getD, replicate}
 use Rattle.engine.specs.Engine.{outputsDiffer, largerCount}
 use Rattle.evaluate.specs.Evaluate.{outputOf, shortScratch}
 use Rattle.file.specs.Check.{fileNumber, refusalOf}
@@ -23,6 +25,7 @@ use Rattle.search.specs.Search.{first, every}
 use Rattle.sizes.specs.Sizes.{maxInputs, within, refusedBy, accepted}
 use Rattle.sizes.specs.declared.Refusal.{Refusal}
 use Rattle.sizes.specs.declared.Sizes.{Sizes}
+use Rattle.slices.specs.Slices.{cleared}
 use Rattle.vectors.specs.Vectors.{held}
 use Rattle.sessions.specs.declared.Answer.{Answer}
 use Rattle.sessions.specs.declared.Continued.{Continued}
@@ -80,6 +83,14 @@ stateRefusal w G z =
     (cond (misplaced G (z .position) (z .mark)) (refusedBy 102)
     (cond (isClosed (z .mark)) (refusedBy 103) accepted))
 
+unfoldable pub filesRefusal : List ℕ → List ℕ → ℕ → Refusal
+filesRefusal s₁ s₂ B = cond (eqb B 0) (refusedBy 11) (pairRefusal s₁ s₂)
+
+unfoldable pub roomRefusal : List ℕ → List ℕ → Session → ℕ → Refusal
+roomRefusal s₁ s₂ z len =
+    cond (shortScratch (largerCount s₁ s₂) len) (refusedBy 12)
+    (stateRefusal (sizesOf s₁) (gridSize (sizesOf s₁)) z)
+
 unfoldable pub continueRefusal : List ℕ → List ℕ → Session → ℕ → ℕ → Refusal
 continueRefusal s₁ s₂ z B len =
     cond (eqb B 0) (refusedBy 11)
@@ -132,4 +143,4 @@ continued s₁ s₂ z B len =
 unfoldable pub scratchAfter : List ℕ → List ℕ → Session → ℕ → List ℕ → List ℕ
 scratchAfter s₁ s₂ z B scratch =
     cond (isRefusal (continueRefusal s₁ s₂ z B (length scratch))) scratch
-    (replicate (largerCount s₁ s₂) 0 ++ drop (largerCount s₁ s₂) scratch)
+    (cleared (largerCount s₁ s₂) scratch)

@@ -1,4 +1,2 @@
 pub mod Answers
-pub mod Demand2
-pub mod Files
-pub mod Grids
+pub mod Fronts

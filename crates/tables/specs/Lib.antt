@@ -1,3 +1,1 @@
-pub mod Demand2
-pub mod Filling
 pub mod Tables

@@ -1,6 +1,3 @@
+pub mod Axes
 pub mod Blocks
-pub mod Lines
-pub mod Multiples
 pub mod Results
-pub mod Rounds
-pub mod Splice

@@ -1,2 +1,2 @@
 pub mod Grid
-pub mod Passes
+pub mod Transform

@@ -102,10 +102,13 @@ slice-aggregate-first-in-batch c = sym (c .before .before .before .loop .inv .la
 first-in-batch-requires : tie.Need-first-in-batch-requires Inv-loop μ-loop
 first-in-batch-requires c κs =
     let k = c .before .before .before .before .before .loop .inv in
-    let b = batch (c .before .before .before) in
-    (k .prepared,
-    (record { room = omega (arith, k .lanes, width-most (k .prepared .width)); some = b .some; few = b .room; inside = omega (arith, b .part, k .inside) },
-    k .onGrid))
+    let b = batch (c .before .before .before) in (
+      k .prepared,
+      (
+        record { room = omega (arith, k .lanes, width-most (k .prepared .width)); some = b .some; few = b .room; inside = omega (arith, b .part, k .inside) },
+        k .onGrid,
+      ),
+    )
 
 add-p : tie.Need-add-p Inv-loop μ-loop
 add-p c = omega (arith, short (c .before .before .before .before .before .before .before .before .before .before .before .loop .inv) _ (batch (c .before .before .before .before .before .before .before .before .before)) (c .before .before .before .before .before .first-in-batch .ensures .found))

@@ -3,7 +3,7 @@ use mathlib.Core.Bool.{true}
 use mathlib.Core.Path.{_≡_, sym, _∙_}
 use lib.Dec.{lit<}
 use borrow.Author.Tests.{not-false}
-use Rattle.compare.specs.Input.{noneOrTwo}
+use Rattle.reading.specs.Reading.{noneOrTwo}
 use Rattle.compare.proofs.Texts.{written-counts}
 use borrow.Author.Needs.{needs}
 use Rattle.compare.proofs.main.Statement.{statement}

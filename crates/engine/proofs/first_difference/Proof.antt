@@ -76,10 +76,14 @@ mul-if5 c = search needs
 
 in-long-lanes-requires : tie.Need-in-long-lanes-requires
 in-long-lanes-requires c κs =
-    let e = c .before .before .before .before .before .before .before .before .before .before in
-    (within (c .before .before .before .before .before .before .before .before .before .before .pre .0) _ _ _ (c .before .before .before .before .before .before .before .before .before .before .pre .1 .0) (c .before .before .before .before .before .before .before .before .before .before .pre .1 .1) (c .before .before .before .before .before .before .if1 .left),
-    (inl refl, omega (arith, c .before .if5 .taken, c .before .before .before .before .larger .ensures, le-max-left (e .args .plan .n1) (e .args .plan .n2)),
-    omega (arith, c .before .if5 .taken, c .before .before .before .before .larger .ensures, le-max-right (e .args .plan .n1) (e .args .plan .n2))))
+    let e = c .before .before .before .before .before .before .before .before .before .before in (
+      within (c .before .before .before .before .before .before .before .before .before .before .pre .0) _ _ _ (c .before .before .before .before .before .before .before .before .before .before .pre .1 .0) (c .before .before .before .before .before .before .before .before .before .before .pre .1 .1) (c .before .before .before .before .before .before .if1 .left),
+      (
+        inl refl,
+        omega (arith, c .before .if5 .taken, c .before .before .before .before .larger .ensures, le-max-left (e .args .plan .n1) (e .args .plan .n2)),
+        omega (arith, c .before .if5 .taken, c .before .before .before .before .larger .ensures, le-max-right (e .args .plan .n1) (e .args .plan .n2)),
+      ),
+    )
 
 same-length-4 : tie.Need-same-length-4
 same-length-4 c = search needs
@@ -89,9 +93,10 @@ returns-5 c = search needs
 
 in-long-lanes-requires-2 : tie.Need-in-long-lanes-requires-2
 in-long-lanes-requires-2 c κs =
-    let k = c .before .before .before .before .before .before .before .before .before .before .pre .0 in
-    (within (c .before .before .before .before .before .before .before .before .before .before .pre .0) _ _ _ (c .before .before .before .before .before .before .before .before .before .before .pre .1 .0) (c .before .before .before .before .before .before .before .before .before .before .pre .1 .1) (c .before .before .before .before .before .before .if1 .left),
-    (inr refl, omega (arith, plan.count₁ k, k .files .sound₁ .countHigh), omega (arith, plan.count₂ k, k .files .sound₂ .countHigh)))
+    let k = c .before .before .before .before .before .before .before .before .before .before .pre .0 in (
+      within (c .before .before .before .before .before .before .before .before .before .before .pre .0) _ _ _ (c .before .before .before .before .before .before .before .before .before .before .pre .1 .0) (c .before .before .before .before .before .before .before .before .before .before .pre .1 .1) (c .before .before .before .before .before .before .if1 .left),
+      (inr refl, omega (arith, plan.count₁ k, k .files .sound₁ .countHigh), omega (arith, plan.count₂ k, k .files .sound₂ .countHigh)),
+    )
 
 same-length-5 : tie.Need-same-length-5
 same-length-5 c = search needs

@@ -24,10 +24,13 @@ by-lines-requires c κs =
     let q = c .before .before .before .before .before .before .before .before .pre in
     let k = q .0 in
     let few₁ = k .planned .files .sound₁ .countHigh in
-    let few₂ = k .planned .files .sound₂ .countHigh in
-    (in-turn (k .planned) _ _ _ (q .1 .0) (q .1 .1) (q .1 .2) (omega arith),
-    (record { room₁ = omega (arith, plan.count₁ (k .planned), few₁); room₂ = omega (arith, plan.count₂ (k .planned), few₂); flagged = k .room },
-    (k .some, k .inside)))
+    let few₂ = k .planned .files .sound₂ .countHigh in (
+      in-turn (k .planned) _ _ _ (q .1 .0) (q .1 .1) (q .1 .2) (omega arith),
+      (
+        record { room₁ = omega (arith, plan.count₁ (k .planned), few₁); room₂ = omega (arith, plan.count₂ (k .planned), few₂); flagged = k .room },
+        (k .some, k .inside),
+      ),
+    )
 
 same-length : tie.Need-same-length
 same-length c = search needs

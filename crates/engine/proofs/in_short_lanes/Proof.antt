@@ -23,9 +23,10 @@ slice-aggregate-by-lines-4 c = search needs
 by-lines-requires : tie.Need-by-lines-requires
 by-lines-requires c κs =
     let q = c .before .before .before .before .before .before .before .before .pre in
-    let k = q .0 in
-    (apart (k .planned) _ _ _ (inl refl) (omega (arith, q .1 .0)) (omega (arith, q .1 .1)),
-    (record { room₁ = q .1 .0; room₂ = q .1 .1; flagged = k .room }, (k .some, k .inside)))
+    let k = q .0 in (
+      apart (k .planned) _ _ _ (inl refl) (omega (arith, q .1 .0)) (omega (arith, q .1 .1)),
+      (record { room₁ = q .1 .0; room₂ = q .1 .1; flagged = k .room }, (k .some, k .inside)),
+    )
 
 same-length : tie.Need-same-length
 same-length c = search needs

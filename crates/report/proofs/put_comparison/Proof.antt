@@ -8,11 +8,11 @@ use denote.Ref.{now}
 use Rattle.sessions.specs.Session.{opened}
 use Rattle.sessions.specs.declared.Opened.{Opened}
 use Rattle.sizes.specs.declared.Sizes.{Sizes}
-use Rattle.report.specs.Report.{gridText, shownText, concluded}
-use Rattle.report.specs.Text.{runLine}
-use Rattle.report.specs.Writing.{Room, Put}
-use Rattle.report.proofs.Over.{room-first, room-second, put-none, put-then}
-use Rattle.report.proofs.Texts.{concluded-refused, concluded-lines, first-accepted}
+use Rattle.printed.specs.Report.{gridText, shownText, concluded}
+use Rattle.printed.specs.Lines.{runLine}
+use Rattle.text.specs.Writing.{Room, Put}
+use Rattle.text.proofs.Over.{room-first, room-second, put-none, put-then}
+use Rattle.printed.proofs.Texts.{concluded-refused, concluded-lines, first-accepted}
 use Rattle.report.proofs.put_comparison.Statement.{statement}
 use Rattle.report.proofs.put_comparison.Tie as tie
 

@@ -10,13 +10,14 @@ use lib.ListN.{length}
 use mir.Syntax.{w64}
 use mir.Val.{Fits}
 use Rattle.sessions.specs.declared.Answer.{Answer}
-use Rattle.report.specs.Claims.{Words}
+use Rattle.printed.specs.Claims.{Words}
 use Rattle.report.specs.Report.{reportOf, textRoom, reported}
-use Rattle.report.specs.Writing.{Room, Put, TextWritten}
-use Rattle.report.proofs.Fits.{fits}
-use Rattle.report.proofs.Over.{put-none}
-use Rattle.report.proofs.Texts.{report-refused, report-spent, report-equivalent, report-differs, reported-short, reported-whole, at-front}
-use Rattle.report.proofs.Words.{words}
+use Rattle.text.specs.Writing.{Room, Put, TextWritten}
+use Rattle.printed.proofs.Fits.{fits}
+use Rattle.text.proofs.Over.{put-none, at-front}
+use Rattle.printed.proofs.Texts.{report-refused, report-spent, report-equivalent, report-differs}
+use Rattle.report.proofs.Texts.{reported-short, reported-whole}
+use Rattle.printed.proofs.Words.{words}
 use borrow.Author.Needs.{needs}
 use Rattle.report.proofs.report.Statement.{statement}
 use Rattle.report.proofs.report.Tie as tie

@@ -224,14 +224,15 @@ set-lanes-requires : tie.Need-set-lanes-requires Inv-loop μ-loop
 set-lanes-requires c κs =
     let k = c .before .before .loop .inv in
     let e = plan.inputs (k .prepared .planned) in
-    let few = k .prepared .planned .files .sound₁ .inputsHigh in
-    (omega (arith, e, few),
-    record {
-      room = omega (arith, width-most (k .prepared .width), k .lanes);
-      some = omega (arith, width-least (k .prepared .width));
-      few = omega arith;
-      inside = rows-left k (c .before .loop-test .taken);
-    })
+    let few = k .prepared .planned .files .sound₁ .inputsHigh in (
+      omega (arith, e, few),
+      record {
+        room = omega (arith, width-most (k .prepared .width), k .lanes);
+        some = omega (arith, width-least (k .prepared .width));
+        few = omega arith;
+        inside = rows-left k (c .before .loop-test .taken);
+      },
+    )
 
 slice-aggregate-agreeing-lanes : tie.Need-slice-aggregate-agreeing-lanes Inv-loop μ-loop
 slice-aggregate-agreeing-lanes c =
@@ -245,13 +246,16 @@ agreeing-lanes-requires c κs =
     let k = h .loop .inv in
     let l₁ = first (second h) .list-dependent .ensures in
     let l₂ = second h .list-dependent2 .ensures in
-    let grid = on-grid k (s .before .before .loop-test .taken) _ _ (s .set-lanes .ensures) in
-    (k .prepared,
-    (record { listed₁ = l₁ .listed; listed₂ = l₂ .listed; rest₁ = l₁ .rest; rest₂ = l₂ .rest },
-    record {
-      room = inputs-room (k .prepared) (s .set-lanes .last .0) (omega (arith, s .set-lanes .kept .0, k .lanes, width-most (k .prepared .width)));
-      onGrid = grid;
-    }))
+    let grid = on-grid k (s .before .before .loop-test .taken) _ _ (s .set-lanes .ensures) in (
+      k .prepared,
+      (
+        record { listed₁ = l₁ .listed; listed₂ = l₂ .listed; rest₁ = l₁ .rest; rest₂ = l₂ .rest },
+        record {
+          room = inputs-room (k .prepared) (s .set-lanes .last .0) (omega (arith, s .set-lanes .kept .0, k .lanes, width-most (k .prepared .width)));
+          onGrid = grid;
+        },
+      ),
+    )
 
 add-result : tie.Need-add-result Inv-loop μ-loop
 add-result c =

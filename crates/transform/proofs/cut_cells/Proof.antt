@@ -9,7 +9,7 @@ use native.Mathlib.Omega.{arith}
 use lib.ListN.{length, getD, set, length-set, length-map, List·getD-map}
 use borrow.Author.Needs.{needs}
 use denote.Ref.{now}
-use Rattle.transform.proofs.Splice.{splice, splice-none, splice-all, splice-up, getD-splice-high}
+use Rattle.rounds.proofs.Splice.{splice, splice-none, splice-all, splice-up, getD-splice-high}
 use Rattle.transform.proofs.cut_cells.Statement.{statement}
 use Rattle.transform.proofs.cut_cells.Tie as tie
 
@@ -31,30 +31,6 @@ Inv-loop cells₀ m i₀ cells i =
 abbrev μ-loop : tie.MeasureT-loop
 μ-loop cells₀ m i₀ cells i = length cells₀ - i
 
-loop-holds : tie.Need-loop-holds Inv-loop μ-loop
-loop-holds c = (omega arith, omega arith, sym (splice-none _ _))
-
-mul-x : tie.Need-mul-x Inv-loop μ-loop
-mul-x c = search needs
-
-slice-read-x : tie.Need-slice-read-x Inv-loop μ-loop
-slice-read-x c = omega arith
-
-cut-requires : tie.Need-cut-requires Inv-loop μ-loop
-cut-requires c κs = search needs
-
-mul-cells : tie.Need-mul-cells Inv-loop μ-loop
-mul-cells c = search needs
-
-slice-write-cells : tie.Need-slice-write-cells Inv-loop μ-loop
-slice-write-cells c = omega arith
-
-add-i : tie.Need-add-i Inv-loop μ-loop
-add-i c = omega arith
-
-loop-less : tie.Need-loop-less Inv-loop μ-loop
-loop-less c = omega arith
-
 loop-again : tie.Need-loop-again Inv-loop μ-loop
 loop-again c =
     let a = c .before .before .before .before .before .args in
@@ -63,9 +39,6 @@ loop-again c =
       simp length-set (l .inv .1),
       ap (set (l .cells) (l .i)) (c .cut .ensures) ∙ cut-step (a .m) (now (a .cells)) (l .cells) (l .i) (omega arith) (l .inv .2),
     )
-
-same-length : tie.Need-same-length Inv-loop μ-loop
-same-length c = c .before .loop .inv .1
 
 returns : tie.Need-returns Inv-loop μ-loop
 returns c =
@@ -79,14 +52,14 @@ cut-cells-spec =
     (tie.spec
     Inv-loop
     μ-loop
-    loop-holds
-    mul-x
-    slice-read-x
-    cut-requires
-    mul-cells
-    slice-write-cells
-    add-i
-    loop-less
+    (λ c. (omega arith, omega arith, sym (splice-none _ _)))
+    (λ c. search needs)
+    (λ c. omega arith)
+    (λ c κs. search needs)
+    (λ c. search needs)
+    (λ c. omega arith)
+    (λ c. omega arith)
+    (λ c. omega arith)
     loop-again
-    same-length
+    (λ c. c .before .loop .inv .1)
     returns)

@@ -11,24 +11,27 @@ use borrow.Kind.Array.{eInt, good-length}
 use mir.Syntax.{w64}
 use denote.Ref.{now}
 use Rattle.places.specs.Places.{size}
-use Rattle.transform.specs.Passes.{factor, passed, blockwise}
-use Rattle.transform.proofs.Multiples.{factors-pos, multiple-pos, multiple-le, size-multiple, drop-axis}
+use Rattle.rounds.specs.Passes.{factor, passed}
+use Rattle.rounds.proofs.Multiples.{factors-pos, multiple-pos, multiple-le}
+use Rattle.sizes.specs.Sizes.{maxInputs}
+use Rattle.transform.specs.Transform.{blockwise}
+use Rattle.transform.proofs.Axes.{size-multiple, drop-axis}
 use Rattle.transform.proofs.Blocks.{blockwise-none, blockwise-step, blockwise-all}
 use Rattle.transform.proofs.passes.Statement.{statement}
 use Rattle.transform.proofs.passes.Tie as tie
 
 abbrev Inv-loop : tie.InvT-loop
-Inv-loop cells₀ d subtract axes w₀ i₀ cells w i =
+Inv-loop cells₀ d sum axes w₀ i₀ cells w i =
     (i ≤ d)
     × (w ≡ size (drop i (take d axes)))
     × (length cells ≡ length cells₀)
-    × (cells ≡ blockwise (factor subtract) (drop i (take d axes)) cells₀)
+    × (cells ≡ blockwise (factor sum) (drop i (take d axes)) cells₀)
 
 abbrev μ-loop : tie.MeasureT-loop
-μ-loop cells₀ d subtract axes w₀ i₀ cells w i = i
+μ-loop cells₀ d sum axes w₀ i₀ cells w i = i
 
-eight : (c : tie.Start Inv-loop μ-loop) → length (c .args .t2) ≡ 8
-eight c = good-length (eInt w64) 8 (c .args .t2) _ (c .good .1 .0)
+eight : (c : tie.Start Inv-loop μ-loop) → length (c .args .t2) ≡ maxInputs
+eight c = good-length (eInt w64) maxInputs (c .args .t2) _ (c .good .1 .0)
 
 -- the axis before i, and the axes from it on
 axis :
@@ -56,18 +59,9 @@ loop-holds c =
       sym (ap size none),
       omega arith,
       sym
-          (ap (λ (vs : List ℕ). blockwise (factor (a .subtract)) vs (now (a .cells))) none
-          ∙ blockwise-none (factor (a .subtract)) (now (a .cells)) (λ q. c .slice-known .given q .fits)),
+          (ap (λ (vs : List ℕ). blockwise (factor (a .sum)) vs (now (a .cells))) none
+          ∙ blockwise-none (factor (a .sum)) (now (a .cells)) (λ q. c .slice-known .given q .fits)),
     )
-
-sub-i : tie.Need-sub-i Inv-loop μ-loop
-sub-i c = omega arith
-
-mul-u : tie.Need-mul-u Inv-loop μ-loop
-mul-u c = omega arith
-
-array-read-u : tie.Need-array-read-u Inv-loop μ-loop
-array-read-u c = omega arith
 
 pass-requires : tie.Need-pass-requires Inv-loop μ-loop
 pass-requires c κs =
@@ -80,9 +74,6 @@ mul-w c =
     let s = c .before .before .before .before .before .before .before in
     omega (arith, multiple-le _ _ (axis (c .before .before .before .before) .1) (s .pre .some))
 
-loop-less : tie.Need-loop-less Inv-loop μ-loop
-loop-less c = omega arith
-
 loop-again : tie.Need-loop-again Inv-loop μ-loop
 unfolding size
 loop-again c =
@@ -90,7 +81,7 @@ loop-again c =
     let a = start .args in
     let l = c .before .before .before .before .before .loop in
     let e = axis (c .before .before .before .before) in
-    let s = factor (a .subtract) in
+    let s = factor (a .sum) in
     let u = getD (a .t2) (l .i - 1) 0 in
     let vs = drop (l .i) (take (a .d) (a .t2)) in
     let z = factors-pos u (l .w) (multiple-pos (u * l .w) (length (now (a .cells))) (e .1) (start .pre .some)) in (
@@ -112,8 +103,8 @@ returns c =
     let l = c .before .loop in
     let none : l .i ≡ 0 = omega arith in
     l .inv .3
-    ∙ ap (λ (i : ℕ). blockwise (factor (a .subtract)) (drop i (take (a .d) (a .t2))) (now (a .cells))) none
-    ∙ blockwise-all (factor (a .subtract)) (take (a .d) (a .t2)) (now (a .cells)) (sym (c .before .before .before .pre .counted))
+    ∙ ap (λ (i : ℕ). blockwise (factor (a .sum)) (drop i (take (a .d) (a .t2))) (now (a .cells))) none
+    ∙ blockwise-all (factor (a .sum)) (take (a .d) (a .t2)) (now (a .cells)) (sym (c .before .before .before .pre .counted))
 
 pub passes-spec : {M : Type 1} → statement M
 passes-spec =
@@ -122,12 +113,12 @@ passes-spec =
     Inv-loop
     μ-loop
     loop-holds
-    sub-i
-    mul-u
-    array-read-u
+    (λ c. omega arith)
+    (λ c. omega arith)
+    (λ c. omega arith)
     pass-requires
     mul-w
-    loop-less
+    (λ c. omega arith)
     loop-again
     same-length
     returns)

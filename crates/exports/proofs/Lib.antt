@@ -1,4 +1,0 @@
-pub mod Answered
-pub mod Calls
-pub mod Layouts
-pub mod Reports

@@ -1,6 +1,0 @@
-pub mod FileCalls
-pub mod Layout
-pub mod ReportCalls
-pub mod SessionCalls
-pub mod TableCalls
-pub mod Words

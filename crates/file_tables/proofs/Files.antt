@@ -1,0 +1,111 @@
+-- The table of a file. Its outputs are its exact values modulo 2^m, and functions that are congruent over the grid have equal tables: so the
+-- outputs, differenced, give the table of the exact values; and that table, summed, gives the outputs.
+use mathlib.Core.Bool.{false}
+use mathlib.Core.Path.{_≡_, sym, _∙_, ap}
+use mathlib.Core.List.{List, _++_}
+use Prim.Native.Nat.{ℕ, _^_, _≤_, _<_}
+use native.Mathlib.Nat.{mod-eq-of-lt}
+use native.Mathlib.Omega.{arith}
+use lib.IntN.{ℤ, negsuc}
+use lib.ListN.{length, take, drop, length-take, length-drop}
+use lib.Pow.{pow-pos}
+use lib.Seq.{take-all}
+use Rattle.differences.specs.Table.{mixedDifference, listed, tableOf, given}
+use Rattle.differences.proofs.Listed.{length-values, listed-equal, given-listed}
+use Rattle.differences.proofs.Neighbours.{mixed-remainder}
+use Rattle.differences.proofs.Tables.{difference-mixed, sumOfTable}
+use Rattle.evaluate.specs.Evaluate.{outputOf}
+use Rattle.file.specs.Accepted.{Accepted}
+use Rattle.fields.specs.File.{sizesOf, stepCount}
+use Rattle.fields.specs.Steps.{stepsOf}
+use Rattle.grid.specs.Grid.{axesOf, gridSize, gridOf}
+use Rattle.grid.specs.declared.Grid.{Grid}
+use Rattle.grid.proofs.Grids.{grid-size, grid-axes, grid-least}
+use Rattle.integers.specs.Modulo.{remainder}
+use Rattle.integers.proofs.Remainder.{remainder-pos, remainder-lt}
+use Rattle.places.specs.Places.{Below, size, vectorAt}
+use Rattle.sizes.specs.Sizes.{maxInputs, Sound}
+use Rattle.sizes.specs.declared.Sizes.{Sizes}
+use Rattle.steps.specs.Steps.{exact, output}
+use Rattle.tables.specs.Tables.{differencesOf, sumsOf}
+use Rattle.tables.proofs.Fronts.{in-place}
+use Rattle.transform.specs.Transform.{transformOf}
+use Rattle.file_tables.specs.FileTables.{tableOfFile}
+use Rattle.file_tables.specs.Filling.{Filling}
+
+-- functions that are congruent over the grid have equal tables
+table-congruent :
+    (M : ℕ) → 0 < M → (us : List ℕ) (F H : List ℕ → ℤ) →
+    ((x : List ℕ) → Below us x → remainder (F x) M ≡ remainder (H x) M) → tableOf M us F ≡ tableOf M us H
+unfolding tableOf
+table-congruent M z us F H e =
+    listed-equal us (λ k. remainder (mixedDifference k F) M) (λ k. remainder (mixedDifference k H) M)
+    (λ k b.
+    ap (λ a. remainder a M) (difference-mixed k F)
+    ∙ mixed-remainder M z (negsuc 0) us k F H b e
+    ∙ ap (λ a. remainder a M) (sym (difference-mixed k H)))
+
+module _ (s : List ℕ) where
+  -- the outputs over the grid, differenced, give the table of the file
+  pub outputs-table : differencesOf (sizesOf s) (listed (axesOf (sizesOf s)) (outputOf s)) ≡ tableOfFile s
+  unfolding differencesOf tableOfFile outputOf output
+  outputs-table =
+      let M = 2 ^ sizesOf s .m in
+      let us = axesOf (sizesOf s) in
+      table-congruent M (pow-pos (sizesOf s .m)) us (given us (listed us (outputOf s))) (exact (stepsOf s))
+      (λ x b.
+      ap (λ a. remainder a M) (given-listed us (outputOf s) x b)
+      ∙ remainder-pos (outputOf s x) M
+      ∙ mod-eq-of-lt (remainder-lt (exact (stepsOf s) x) M (pow-pos (sizesOf s .m))))
+
+  -- the table of the file, summed, gives the outputs over the grid
+  pub table-sums : sumsOf (sizesOf s) (tableOfFile s) ≡ listed (axesOf (sizesOf s)) (outputOf s)
+  unfolding sumsOf tableOfFile outputOf output
+  table-sums = sumOfTable (2 ^ sizesOf s .m) (pow-pos (sizesOf s .m)) (axesOf (sizesOf s)) (exact (stepsOf s))
+
+-- the sizes and the grid of an accepted file, as the code has them
+module _ (s : List ℕ) (a : Accepted s) (z : Sizes) (ez : z ≡ sizesOf s) (g : Grid) (eg : g ≡ gridOf z) where
+  pub sizes-full : length (z .widths) ≡ maxInputs
+  unfolding sizesOf
+  sizes-full = rw (ez, length-take, length-drop) (omega (arith, a .long))
+
+  pub sizes-sound : Sound z
+  unfolding sizesOf
+  sizes-sound = rw ez ((a .outputLow, a .outputHigh), a .inputsHigh)
+
+  same-size : g .size ≡ gridSize (sizesOf s)
+  same-size = grid-size z g eg ∙ ap gridSize ez
+
+  same-axes : take (z .d) (g .axes) ≡ axesOf z
+  same-axes = grid-axes z g eg sizes-full (sizes-sound .1)
+
+  pub filling :
+      (n : ℕ) (scratch table : List ℕ) → n ≡ stepCount s → stepCount s ≤ length scratch → gridSize (sizesOf s) ≤ length table →
+      Filling s n (g .axes) (z .d) (g .size) scratch table
+  unfolding gridSize
+  filling n scratch table e r h =
+      record {
+        sound = a;
+        steps = e;
+        inputs = ap (λ (z : Sizes). z .d) ez;
+        some = omega (arith, grid-least z sizes-sound, ap gridSize ez, same-size);
+        counted = same-size ∙ ap gridSize (sym ez) ∙ ap size (sym same-axes);
+        room = omega arith;
+        held = omega (arith, same-size);
+      }
+
+  -- the outputs over the grid, differenced in place
+  pub filled :
+      (table outputs out : List ℕ) → outputs ≡ listed (take (z .d) (g .axes)) (outputOf s) ++ drop (g .size) table →
+      out ≡ transformOf false (2 ^ z .m) (take (z .d) (g .axes)) (take (g .size) outputs) ++ drop (g .size) outputs →
+      out ≡ tableOfFile s ++ drop (gridSize (sizesOf s)) table
+  unfolding gridSize differencesOf transformOf
+  filled table outputs out e o =
+      let ys = listed (axesOf z) (outputOf s) in
+      let n : length ys ≡ gridSize z = length-values (λ p. outputOf s (vectorAt (axesOf z) p)) 0 (size (axesOf z)) in
+      in-place z sizes-full sizes-sound g eg false ys table outputs out (omega (arith, n))
+      (e ∙ ap (λ l. l ++ drop (g .size) table) (ap (λ us. listed us (outputOf s)) same-axes ∙ sym (take-all (g .size) ys (omega (arith, n, grid-size z g eg)))))
+      o
+      ∙ ap (λ l. differencesOf z l ++ drop (gridSize z) table) (take-all (gridSize z) ys (omega (arith, n)))
+      ∙ ap (λ (z : Sizes). differencesOf z (listed (axesOf z) (outputOf s)) ++ drop (gridSize z) table) ez
+      ∙ ap (λ l. l ++ drop (gridSize (sizesOf s)) table) (outputs-table s)

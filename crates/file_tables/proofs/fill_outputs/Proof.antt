@@ -1,0 +1,162 @@
+-- `file_tables::fill_outputs` meets its contract. The loop's invariant: v holds the vector at place p while p is before the end, the outputs at the
+-- places passed are written, and the scratch entries past the first n are as at entry.
+-- Assumes nothing.
+use mathlib.Core.Path.{_≡_, refl, sym, _∙_, ap}
+use mathlib.Core.List.{List, _++_}
+use Prim.Native.Nat.{ℕ, _+_, _-_, _≤_, _<_}
+use native.Mathlib.Omega.{arith}
+use borrow.Author.Needs.{needs}
+use lib.ListN.{length, getD, take, drop, set}
+use lib.Seq.{take-all}
+use Rattle.differences.specs.Table.{listed}
+use Rattle.differences.proofs.Listed.{length-values, getD-values}
+use Rattle.evaluate.specs.Evaluate.{outputOf}
+use Rattle.evaluate.proofs.Words.{output-entries}
+use Rattle.evaluate.specs.Run.{Ready}
+use Rattle.places.specs.Places.{size, vectorAt}
+use Rattle.sizes.specs.Sizes.{maxInputs}
+use Rattle.vectors.specs.Vectors.{held, Placed}
+use Rattle.vectors.proofs.Held.{held-entry}
+use Rattle.file_tables.specs.Filling.{Filling}
+use Rattle.slices.specs.Slices.{KeptPast}
+use Rattle.slices.proofs.Copied as Written
+use Rattle.slices.proofs.Copied.{Copied}
+use Rattle.file_tables.proofs.fill_outputs.Statement.{statement}
+use Rattle.file_tables.proofs.fill_outputs.Tie as tie
+
+record Filled (s : List ℕ) (n : ℕ) (axes : List ℕ) (d count : ℕ) (scratch₀ table₀ scratch table v : List ℕ) (p : ℕ) : Type 0 where
+  asked : Filling s n axes d count scratch₀ table₀
+  written : Copied (listed (take d axes) (outputOf s)) table₀ count table p
+  long : length scratch ≡ length scratch₀
+  kept : KeptPast n scratch₀ scratch
+  full : length v ≡ maxInputs
+  vector : p < count → v ≡ held (vectorAt (take d axes) p)
+
+module _
+    (s : List ℕ) (n : ℕ) (axes : List ℕ) (d count : ℕ) (scratch₀ table₀ scratch table v : List ℕ) (p : ℕ)
+    (k : Filled s n axes d count scratch₀ table₀ scratch table v p)
+  where
+    outputs-length : length (listed (take d axes) (outputOf s)) ≡ count
+    outputs-length = length-values _ 0 (size (take d axes)) ∙ sym (k .asked .counted)
+
+    ready : Ready s n v scratch
+    ready =
+        record {
+          sound = k .asked .sound;
+          count = k .asked .steps;
+          inputs = omega (arith, k .full, k .asked .sound .inputsHigh);
+          room = omega (arith, k .long, k .asked .room);
+        }
+
+    finished : count ≤ p → table ≡ listed (take d axes) (outputOf s) ++ drop count table₀
+    finished h = Written.whole _ _ _ _ _ (k .written) h ∙ ap (λ l. l ++ drop count table₀) (take-all count _ (omega (arith, outputs-length)))
+
+    module _ (t : p < count) where
+      inside : p < size (take d axes)
+      inside = omega (arith, k .asked .counted)
+
+      placed : Placed (take d axes) v
+      placed = record { place = p; inside = inside; shape = k .vector t }
+
+      output-here : outputOf s v ≡ getD (listed (take d axes) (outputOf s)) p 0
+      output-here =
+          ap (outputOf s) (k .vector t)
+          ∙ output-entries s (held (vectorAt (take d axes) p)) (vectorAt (take d axes) p) (held-entry (vectorAt (take d axes) p))
+          ∙ sym (getD-values (λ q. outputOf s (vectorAt (take d axes) q)) 0 (size (take d axes)) 0 p inside ∙ ap (λ q. outputOf s (vectorAt (take d axes) q)) (omega arith))
+
+      more :
+          (y : ℕ) (scratch' v' : List ℕ) → y ≡ outputOf s v → length scratch' ≡ length scratch → drop n scratch' ≡ drop n scratch →
+          length v' ≡ maxInputs →
+          ((q : ℕ) → q + 1 < size (take d axes) → v ≡ held (vectorAt (take d axes) q) → v' ≡ held (vectorAt (take d axes) (q + 1))) →
+          Filled s n axes d count scratch₀ table₀ scratch' (set table p y) v' (p + 1)
+      more y scratch' v' e l q w step =
+          record {
+            asked = k .asked;
+            written = Written.more _ _ _ _ _ (k .written) y t (omega (arith, outputs-length)) (k .asked .held) (e ∙ output-here);
+            long = l ∙ k .long;
+            kept = q ∙ k .kept;
+            full = w;
+            vector = λ h. step p (omega (arith, k .asked .counted)) (k .vector t);
+          }
+
+abbrev Inv-loop : tie.InvT-loop
+Inv-loop file n axes d count scratch₀ table₀ v₀ p₀ scratch table v p = Filled file n axes d count scratch₀ table₀ scratch table v p
+
+abbrev μ-loop : tie.MeasureT-loop
+μ-loop file n axes d count scratch₀ table₀ v₀ p₀ scratch table v p = count - p
+
+vector-at-requires : tie.Need-vector-at-requires Inv-loop μ-loop
+vector-at-requires c κs =
+    let k = c .before .before .before .pre in
+    (omega (arith, k .inputs, k .sound .inputsHigh), omega (arith, k .some, k .counted))
+
+loop-holds : tie.Need-loop-holds Inv-loop μ-loop
+loop-holds c =
+    record {
+      asked = c .before .before .before .before .pre;
+      written = Written.none _ _ _;
+      long = refl;
+      kept = refl;
+      full = search needs;
+      vector = λ h. c .vector-at .ensures;
+    }
+
+slice-aggregate-output-at : tie.Need-slice-aggregate-output-at Inv-loop μ-loop
+slice-aggregate-output-at c = sym (c .before .before .loop .inv .full)
+
+output-at-requires : tie.Need-output-at-requires Inv-loop μ-loop
+output-at-requires c κs = ready _ _ _ _ _ _ _ _ _ _ _ (c .before .before .before .loop .inv)
+
+mul-table : tie.Need-mul-table Inv-loop μ-loop
+mul-table c = let k = c .before .before .before .before .before .before .loop .inv in omega (arith, c .before .before .before .before .before .loop-test .taken, k .written .long, k .asked .held)
+
+slice-write-table : tie.Need-slice-write-table Inv-loop μ-loop
+slice-write-table c = let k = c .before .before .before .before .before .before .loop .inv in omega (arith, c .before .before .before .before .before .loop-test .taken, k .written .long, k .asked .held)
+
+next-vector-requires : tie.Need-next-vector-requires Inv-loop μ-loop
+next-vector-requires c κs =
+    let k = c .before .before .before .before .before .before .loop .inv in
+    (omega (arith, k .asked .inputs, k .asked .sound .inputsHigh), placed _ _ _ _ _ _ _ _ _ _ _ k (c .before .before .before .before .before .loop-test .taken))
+
+add-p : tie.Need-add-p Inv-loop μ-loop
+add-p c = omega (arith, c .before .before .before .before .before .before .loop-test .taken)
+
+loop-less : tie.Need-loop-less Inv-loop μ-loop
+loop-less c = omega (arith, c .before .before .before .before .before .before .loop-test .taken)
+
+loop-again : tie.Need-loop-again Inv-loop μ-loop
+loop-again c =
+    let called = c .before .before .before .output-at in
+    more _ _ _ _ _ _ _ _ _ _ _ (c .before .before .before .before .before .before .before .loop .inv) (c .before .before .before .before .before .before .loop-test .taken)
+    _ _ _ (called .ensures .output) (called .kept .1 .1 .1 .0) (called .ensures .kept) (search needs) (c .next-vector .ensures)
+
+same-length : tie.Need-same-length Inv-loop μ-loop
+same-length c = c .before .loop .inv .long
+
+same-length-2 : tie.Need-same-length-2 Inv-loop μ-loop
+same-length-2 c = c .before .loop .inv .written .long
+
+returns : tie.Need-returns Inv-loop μ-loop
+returns c =
+    let k = c .before .loop .inv in
+    record { table = finished _ _ _ _ _ _ _ _ _ _ _ k (c .loop-test .left); scratch = k .kept }
+
+pub fill-outputs-spec : {M : Type 1} → statement M
+fill-outputs-spec =
+    tie.close
+    (tie.spec
+    Inv-loop
+    μ-loop
+    vector-at-requires
+    loop-holds
+    slice-aggregate-output-at
+    output-at-requires
+    mul-table
+    slice-write-table
+    next-vector-requires
+    add-p
+    loop-less
+    loop-again
+    same-length
+    same-length-2
+    returns)

@@ -1,0 +1,108 @@
+// The difference table of a file. Document 01's number G is the size of the grid.
+use evaluate::output_at;
+use fields::read_sizes;
+use fields::step_count;
+use file::check;
+use grid::grid_of;
+use sizes::INPUTS;
+use sizes::Refusal;
+use sizes::refused_by;
+use slices::clear;
+use transform::transform_front;
+use vectors::next_vector;
+use vectors::vector_at;
+ghost use mathlib.Core.Path.{_≡_};
+ghost use Prim.Native.Nat.{_≤_};
+ghost use lib.ListN.{length};
+ghost use Rattle.file.specs.Accepted.{Accepted};
+ghost use Rattle.fields.specs.File.{sizesOf, stepCount};
+ghost use Rattle.grid.specs.Grid.{gridSize};
+ghost use Rattle.file_tables.specs.FileTables.{tableRefusal, TableMade};
+ghost use Rattle.file_tables.specs.Filling.{Filling, OutputsFilled, TableFilled};
+
+// What making a table answers, with a scratch slice of `room` entries and a table slice of `len`: the file's refusal, 12 or 13, or acceptance.
+// Number 10 never occurs.
+fn table_refusal(file: &[u8], room: usize, len: usize) -> Refusal
+    ensures { λ r. ⌜ r ≡ tableRefusal (now (file .entry)) room len ⌝ }
+{
+    let refusal = check(file);
+    let number = refusal.number;
+    if number != 0 {
+        return refusal;
+    }
+    if room < step_count(file) {
+        return refused_by(12);
+    }
+    let g = grid_of(read_sizes(file));
+    if len < g.size as usize {
+        return refused_by(13);
+    }
+    refused_by(0)
+}
+
+// The outputs of an accepted file at the `count` vectors of the grid, in dictionary order, go into the first entries of the table slice. The
+// vector of place 0 is decoded, and each later one is stepped to. Of the scratch slice the first n entries are overwritten.
+fn fill_outputs(
+    file: &[u8],
+    n: usize,
+    axes: [u64; INPUTS],
+    d: usize,
+    count: usize,
+    scratch: &mut [u64],
+    table: &mut [u64],
+)
+    requires { ⌜ Filling (now file) n axes d count (now scratch) (now table) ⌝ }
+    ensures { λ _. ⌜
+        OutputsFilled (now (file .entry)) n axes d count (now (scratch .entry)) (now (table .entry))
+        (now (scratch .exit)) (now (table .exit))
+        ⌝ }
+{
+    let mut v = vector_at(axes, d, 0);
+    let mut p = 0;
+    while p < count {
+        let y = output_at(file, n, &v, scratch);
+        table[p] = y;
+        v = next_vector(axes, d, v);
+        p += 1;
+    }
+}
+
+// The table of an accepted file, where both slices have room: the outputs over the grid, differenced in place.
+fn fill_table(file: &[u8], scratch: &mut [u64], table: &mut [u64])
+    requires { ⌜ Accepted (now file) ⌝ }
+    requires { ⌜ stepCount (now file) ≤ length (now scratch) ⌝ }
+    requires { ⌜ gridSize (sizesOf (now file)) ≤ length (now table) ⌝ }
+    ensures { λ _. ⌜
+        TableFilled (now (file .entry)) (now (scratch .entry)) (now (table .entry))
+        (now (scratch .exit)) (now (table .exit))
+        ⌝ }
+{
+    let z = read_sizes(file);
+    let d = z.d as usize;
+    let m = z.m as u64;
+    let g = grid_of(z);
+    let axes = g.axes;
+    let cells = g.size as usize;
+    let n = step_count(file);
+    fill_outputs(file, n, axes, d, cells, scratch, table);
+    transform_front(table, axes, d, cells, m, false);
+    clear(scratch, n);
+}
+
+// The difference table of a file. Of the table slice the first G entries become the table: cell k holds the k-fold forward difference of the
+// exact values at the zero vector, modulo 2^m, in dictionary order. Number 0: accepted, and the first N scratch entries are zero afterwards.
+// Otherwise refused under document 01's conditions 1 to 8, 10, 12 and 13, in its order, with both slices untouched.
+pub fn make_table(file: &[u8], scratch: &mut [u64], table: &mut [u64]) -> Refusal
+    ensures { λ r. ⌜
+        TableMade (now (file .entry)) (now (scratch .entry)) (now (table .entry)) r
+        (now (scratch .exit)) (now (table .exit))
+        ⌝ }
+{
+    let refusal = table_refusal(file, scratch.len(), table.len());
+    let number = refusal.number;
+    if number != 0 {
+        return refusal;
+    }
+    fill_table(file, scratch, table);
+    refusal
+}

@@ -1,0 +1,39 @@
+-- The words of the answers about bounds and grids, by their cases. Number 10 never occurs. Assumes nothing.
+use mathlib.Core.Path.{_≡_}
+use mathlib.Core.Bool.{true, false}
+use mathlib.Core.List.{List, [], _∷_, _++_}
+use Prim.Native.Nat.{ℕ}
+use borrow.Author.Tests.{eq-eqb, ne-eqb}
+use Rattle.bound.specs.Bound.{bound}
+use Rattle.file.specs.Check.{fileNumber, refusalOf}
+use Rattle.fields.specs.File.{sizesOf}
+use Rattle.file.proofs.Accepted.{accepted}
+use Rattle.grid.specs.Grid.{gridOf}
+use Rattle.grid.proofs.Axes.{never-large}
+use Rattle.layouts.specs.AnswerWords.{refusalWords}
+use Rattle.sizes.specs.Sizes.{within}
+use Rattle.grid_calls.specs.GridCalls.{boundWords, gridAsWords, noGrid, gridWords}
+
+module _ (s : List ℕ) where
+  -- the refusal of an accepted file
+  pub refusal-none : fileNumber s ≡ 0 → refusalWords (refusalOf 1 s) ≡ 0 ∷ 0 ∷ 0 ∷ []
+  unfolding refusalOf
+  refusal-none e = rw (eq-eqb (fileNumber s) 0 e)
+
+  pub grid-refused : ¬ (fileNumber s ≡ 0) → gridWords s ≡ refusalWords (refusalOf 1 s) ++ noGrid
+  unfolding gridWords
+  grid-refused n = rw (ne-eqb (fileNumber s) 0 n)
+
+  pub grid-accepted : fileNumber s ≡ 0 → gridWords s ≡ 0 ∷ 0 ∷ 0 ∷ gridAsWords (gridOf (sizesOf s))
+  unfolding gridWords
+  grid-accepted e =
+      let a = accepted s e in
+      rw (eq-eqb (fileNumber s) 0 e, never-large (sizesOf s) (a .outputLow) (a .outputHigh) (a .inputsHigh))
+
+pub bound-refused : (m : ℕ) → within 1 64 m ≡ false → boundWords m ≡ 2 ∷ 0 ∷ 0 ∷ 0 ∷ []
+unfolding boundWords
+bound-refused m e = rw e
+
+pub bound-accepted : (m : ℕ) → within 1 64 m ≡ true → boundWords m ≡ 0 ∷ 0 ∷ 0 ∷ bound m ∷ []
+unfolding boundWords
+bound-accepted m e = rw e

@@ -1,0 +1,152 @@
+-- The text of an answer is never longer than textRoom: a number below 2^64 has at most 20 digits, so that with its space it takes 21 bytes,
+-- and there are at most maxInputs axes, as many entries, and five numbers more. Assumes nothing.
+use mathlib.Core.Path.{_≡_, refl, ap}
+use mathlib.Core.List.{List, [], _∷_}
+use Prim.Native.Nat.{ℕ, zero, suc, _*_, _/_, _^_, _≤_, _<_}
+use native.Mathlib.Nat.{le-trans, mul-comm, pow-succ', div-lt-iff-lt-mul}
+use native.Mathlib.Decide.{decLt}
+use native.Mathlib.Omega.{arith}
+use lib.Dec.{lit≤, lit<}
+use lib.ListN.{length, getD, take, length-append, length-take}
+use Rattle.bound.specs.Axes.{axes}
+use Rattle.plan.proofs.Axes.{length-axes}
+use Rattle.plan.proofs.Axes.{grid-fits}
+use Rattle.file.specs.Accepted.{Accepted}
+use Rattle.fields.specs.File.{sizesOf}
+use Rattle.grid.specs.Grid.{widthsOf, axesOf, gridSize}
+use Rattle.grid.proofs.Axes.{axis-most}
+use Rattle.sessions.specs.Session.{opened}
+use Rattle.sessions.specs.declared.Answer.{Answer}
+use Rattle.sessions.specs.declared.Kind.{Kind}
+use Rattle.sessions.specs.declared.Kind.the-variants.{Refused, Spent, Equivalent, Differs}
+use Rattle.sizes.specs.Sizes.{maxInputs}
+use Rattle.printed.specs.Claims.{Words, Fits}
+use Rattle.text.specs.Decimal.{decimal}
+use Rattle.printed.specs.Report.{gridText, shownText, concluded, reportOf, textRoom}
+use Rattle.text.specs.Text.{spaced}
+use Rattle.printed.specs.Lines.{refusalLine, gridLine, differLine, equivalentLine, runLine}
+use Rattle.text.proofs.Decimal.{decimal-last, length-more}
+use Rattle.printed.proofs.Texts.{concluded-refused, concluded-lines, first-accepted, report-refused, report-spent, report-equivalent, report-differs}
+
+-- a number below 10^(k + 1) has at most k + 1 digits
+digits-most : (k n : ℕ) → n < 10 ^ suc k → length (decimal n) ≤ suc k
+digits-most zero n h = omega (arith, ap length (decimal-last n h))
+digits-most (suc k) n h =
+    elim (decLt n 10) [
+      | yes l ↦ omega (arith, ap length (decimal-last n l))
+      | no l ↦
+          let q = div-lt-iff-lt-mul (lit< tt) .1 (rw (pow-succ' 10 (suc k), mul-comm 10 (10 ^ suc k)) at h) in
+          omega (arith, length-more n (omega arith), digits-most k (n / 10) q)
+    ]
+
+-- a space and a number
+abbrev perNumber : ℕ
+perNumber = 21
+
+word-most : (n : ℕ) → n < 2 ^ 64 → length (decimal n) ≤ 20
+word-most n h = digits-most 19 n (le-trans h (lit≤ tt))
+
+-- each of the numbers is a word
+abbrev AllWords : List ℕ → Type 0
+AllWords [] = Unit {0}
+AllWords (n ∷ ns) = (n < 2 ^ 64) × AllWords ns
+
+spaced-most : (ns : List ℕ) → AllWords ns → length (spaced ns) ≤ perNumber * length ns
+unfolding spaced
+spaced-most [] h = omega arith
+spaced-most (n ∷ ns) h =
+    omega (arith, length-append (decimal n) (spaced ns), word-most n (h .0), spaced-most ns (h .1))
+
+entry-words : (ns : List ℕ) → ((i : ℕ) → getD ns i 0 < 2 ^ 64) → AllWords ns
+entry-words [] h = tt
+entry-words (n ∷ ns) h = (h 0, entry-words ns (λ i. h (suc i)))
+
+take-words : (d : ℕ) (ns : List ℕ) → AllWords ns → AllWords (take d ns)
+take-words zero ns h = tt
+take-words (suc d) [] h = tt
+take-words (suc d) (n ∷ ns) h = (h .0, take-words d ns (h .1))
+
+axes-words : (m : ℕ) → 1 ≤ m → m ≤ 64 → (ns : List ℕ) → AllWords (axes m ns)
+axes-words m low high [] = tt
+axes-words m low high (n ∷ ns) =
+    let small : 67 ≤ 2 ^ 64 = lit≤ tt in
+    (le-trans (omega (arith, axis-most m low high n)) small, axes-words m low high ns)
+
+-- the lines
+module _ (a : Answer) (w : Words a) where
+  refusal-most : length (refusalLine (a .refusal)) ≤ 71
+  unfolding refusalLine spaced
+  refusal-most =
+      simp length-append
+      (omega (
+        arith,
+        word-most (a .refusal .number) (w .number),
+        word-most (a .refusal .file) (w .file),
+        word-most (a .refusal .step) (w .step),
+      ))
+
+  differ-most : (d : ℕ) → d ≤ maxInputs → length (differLine (take d (a .vector)) (a .output1) (a .output2)) ≤ 219
+  unfolding differLine spaced
+  differ-most d h =
+      simp length-append
+      (omega (
+        arith,
+        spaced-most (take d (a .vector)) (take-words d (a .vector) (entry-words (a .vector) (w .entries))),
+        length-take d (a .vector),
+        word-most (a .output1) (w .output₁),
+        word-most (a .output2) (w .output₂),
+      ))
+
+  equivalent-most : length equivalentLine ≤ 219
+  unfolding equivalentLine
+  equivalent-most = omega arith
+
+  shown-most : (k : Kind) (d : ℕ) → d ≤ maxInputs → length (shownText k d a) ≤ 219
+  unfolding shownText
+  shown-most Refused d h = omega arith
+  shown-most Spent d h = omega arith
+  shown-most Equivalent d h = omega (arith, differ-most d h, equivalent-most)
+  shown-most Differs d h = omega (arith, differ-most d h, equivalent-most)
+
+run-most : (n : ℕ) → n < 2 ^ 64 → length (runLine n) ≤ 25
+unfolding runLine spaced
+run-most n h = simp length-append (omega (arith, word-most n h))
+
+grid-most : (s : List ℕ) → Accepted s → length (gridText s) ≤ 196
+unfolding gridText gridLine axesOf spaced
+grid-most s a =
+    simp length-append
+    (omega (
+      arith,
+      spaced-most (axesOf (sizesOf s)) (axes-words (sizesOf s .m) (a .outputLow) (a .outputHigh) (widthsOf (sizesOf s))),
+      length-axes s a,
+      a .inputsHigh,
+      word-most (gridSize (sizesOf s)) (grid-fits s a),
+    ))
+
+pub fits : Fits
+fits f₁ f₂ a n w h = by (a .kind) refl
+  where
+    lines : reportOf f₁ f₂ a n ≡ concluded f₁ f₂ a n → length (reportOf f₁ f₂ a n) ≤ textRoom
+    lines e =
+        elim (decLt 0 (opened f₁ f₂ .refusal .number)) [
+          | yes o ↦ omega (arith, ap length e, ap length (concluded-refused f₁ f₂ a n (λ z. omega arith)))
+          | no o ↦
+              let z : opened f₁ f₂ .refusal .number ≡ 0 = omega arith in
+              let s = first-accepted f₁ f₂ z in
+              let three = ap length (concluded-lines f₁ f₂ z a n) in
+              omega (
+                arith,
+                ap length e,
+                simp length-append at three,
+                grid-most f₁ s,
+                shown-most a w (a .kind) (sizesOf f₁ .d) (s .inputsHigh),
+                run-most n h,
+              )
+        ]
+
+    by : (k : Kind) → a .kind ≡ k → length (reportOf f₁ f₂ a n) ≤ textRoom
+    by Refused e = omega (arith, ap length (report-refused f₁ f₂ a n e), refusal-most a w)
+    by Spent e = omega (arith, ap length (report-spent f₁ f₂ a n e))
+    by Equivalent e = lines (report-equivalent f₁ f₂ a n e)
+    by Differs e = lines (report-differs f₁ f₂ a n e)

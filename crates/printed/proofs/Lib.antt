@@ -1,0 +1,9 @@
+pub mod Fits
+pub mod InFull
+pub mod Listings
+pub mod Long
+pub mod Printed
+pub mod Shown
+pub mod Texts
+pub mod ThreeLines
+pub mod Words

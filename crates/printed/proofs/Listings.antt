@@ -1,0 +1,33 @@
+-- The texts of the table are what is printed: one test over the whole table computes each.
+use mathlib.Core.Path.{refl}
+use Rattle.bound.specs.Axes.{axis}
+use Rattle.bound.specs.Bound.{bound, bounds}
+use Rattle.evaluate.specs.Evaluate.{outputOf}
+use Rattle.file.specs.Check.{fileNumber, shownStep, refusalOf, tooShort, badCount, badLength, badOperation, operandsRule, argumentRule, badArgument, stepFault, faultyAt, faultyStep, headFault}
+use Rattle.fields.specs.File.{sizesOf, stepCount, operation, argument}
+use Rattle.fields.specs.Steps.{decoded, stepAt, stepsFrom, stepsOf}
+use Rattle.grid.specs.Grid.{axesOf, gridSize, tooLarge}
+use Rattle.integers.specs.Modulo.{remainder}
+use Rattle.places.specs.Places.{size, vectorAt}
+use Rattle.search.specs.Search.{first, every}
+use Rattle.sessions.specs.Demand3.{firstPlace, stop}
+use Rattle.sessions.specs.Session.{sameSizes, pairRefusal, noSession, opened}
+use Rattle.sizes.specs.Sizes.{badOutput, badInputs, widthRule, badWidths}
+use Rattle.steps.specs.Steps.{stepValue, values, exact, output}
+use Rattle.theorem.specs.Comparison.{differsAt, firstDifference}
+use Rattle.words.specs.Bytes.{little}
+use Rattle.text.specs.Decimal.{digitsOf, decimal}
+use Rattle.printed.specs.Listings.{a·dp, b·dp, listed, Listings}
+use Rattle.printed.specs.Report.{gridText, verdictText, printed}
+use Rattle.text.specs.Text.{spaced}
+use Rattle.printed.specs.Lines.{refusalLine, gridLine, differLine, equivalentLine, runLine}
+
+pub listings : Listings
+unfolding listed a·dp b·dp printed gridText verdictText gridLine differLine equivalentLine runLine refusalLine spaced decimal digitsOf
+    opened noSession pairRefusal sameSizes outputOf stop firstPlace
+    refusalOf shownStep fileNumber headFault tooShort badOutput badInputs badCount badWidths widthRule badLength
+    faultyStep faultyAt stepFault badOperation badArgument argumentRule operandsRule
+    sizesOf stepCount operation argument little stepsOf stepsFrom stepAt decoded
+    axesOf gridSize tooLarge axis bound bounds size vectorAt
+    every first firstDifference differsAt output exact values stepValue remainder
+listings = refl

@@ -1,0 +1,79 @@
+-- Texts cut apart: a line ends its piece at its line feed, and a word ends at the space after it, since no digit is either. By recursion on
+-- the bytes. Assumes nothing.
+use mathlib.Core.Path.{_≡_, refl, sym, _∙_, ap}
+use mathlib.Core.Bool.{Bool, true, not, _&&_, and-eq-true-iff}
+use mathlib.Core.List.{List, [], _∷_, _++_, map, append-assoc, append-nil}
+use Prim.Native.Nat.{ℕ, suc, _≤_, _<_}
+use native.Mathlib.Omega.{arith}
+use lib.Dec.{eqb}
+use lib.ListN.{length, getD}
+use borrow.Author.Tests.{ne-eqb, eq-eqb, not-true}
+use Rattle.text.specs.Decimal.{decimal}
+use Rattle.text.specs.Text.{lineFeed, space, line, spaced, cut}
+use Rattle.text.proofs.Decimal.{decimals}
+
+-- none of the bytes is c
+abbrev pub free : ℕ → List ℕ → Bool
+free c [] = true
+free c (b ∷ bytes) = not (eqb b c) && free c bytes
+
+pub free-append : (c : ℕ) (x y : List ℕ) → free c x ≡ true → free c y ≡ true → free c (x ++ y) ≡ true
+free-append c [] y h k = k
+free-append c (b ∷ x) y h k =
+    let p = and-eq-true-iff (not (eqb b c)) (free c x) .0 h in
+    and-eq-true-iff (not (eqb b c)) (free c (x ++ y)) .1 (p .0, free-append c x y (p .1) k)
+
+-- bytes from 48 on are neither line feeds nor spaces
+free-digits : (c : ℕ) → c < 48 → (bytes : List ℕ) → ((i : ℕ) → i < length bytes → 48 ≤ getD bytes i 0) → free c bytes ≡ true
+free-digits c l [] h = refl
+free-digits c l (b ∷ bytes) h =
+    rw (ne-eqb b c (λ e. omega (arith, h 0 (omega arith)))) (free-digits c l bytes (λ i k. h (suc i) (omega arith)))
+
+free-decimal : (c n : ℕ) → c < 48 → free c (decimal n) ≡ true
+free-decimal c n l = free-digits c l (decimal n) (decimals n .low)
+
+-- no number brings a line feed
+pub free-spaced : (ns : List ℕ) → free lineFeed (spaced ns) ≡ true
+unfolding spaced
+free-spaced [] = refl
+free-spaced (n ∷ ns) = free-append lineFeed (decimal n) (spaced ns) (free-decimal lineFeed n (omega arith)) (free-spaced ns)
+
+module _ (c : ℕ) where
+  cut-free : (x : List ℕ) → free c x ≡ true → cut c x ≡ x ∷ []
+  unfolding cut
+  cut-free [] h = refl
+  cut-free (b ∷ x) h =
+      let p = and-eq-true-iff (not (eqb b c)) (free c x) .0 h in
+      rw (not-true (eqb b c) (p .0), cut-free x (p .1))
+
+  pub cut-at : (x y : List ℕ) → free c x ≡ true → cut c (x ++ c ∷ y) ≡ x ∷ cut c y
+  unfolding cut
+  cut-at [] y h = rw (eq-eqb c c refl)
+  cut-at (b ∷ x) y h =
+      let p = and-eq-true-iff (not (eqb b c)) (free c x) .0 h in
+      rw (not-true (eqb b c) (p .0), cut-at x y (p .1))
+
+-- a line, and the text after it
+pub cut-line : (x y : List ℕ) → free lineFeed x ≡ true → cut lineFeed (line x ++ y) ≡ x ∷ cut lineFeed y
+cut-line x y h = rw (append-assoc x (lineFeed ∷ []) y) (cut-at lineFeed x y h)
+
+-- a word and numbers
+pub cut-words : (w ns : List ℕ) → free space w ≡ true → cut space (w ++ spaced ns) ≡ w ∷ map decimal ns
+unfolding spaced
+cut-words w [] h = rw append-nil (cut-free space w h)
+cut-words w (n ∷ ns) h =
+    cut-at space w (decimal n ++ spaced ns) h
+    ∙ ap (λ (ps : List (List ℕ)). w ∷ ps) (cut-words (decimal n) ns (free-decimal space n (omega arith)))
+
+-- and more words after them
+pub cut-more :
+    (w ns y : List ℕ) → free space w ≡ true → cut space (w ++ spaced ns ++ (space ∷ y)) ≡ (w ∷ map decimal ns) ++ cut space y
+unfolding spaced
+cut-more w [] y h = rw append-nil (cut-at space w y h)
+cut-more w (n ∷ ns) y h =
+    ap (cut space)
+    (append-assoc w (spaced (n ∷ ns)) (space ∷ y)
+    ∙ ap (λ (z : List ℕ). w ++ z) (append-assoc (space ∷ decimal n) (spaced ns) (space ∷ y)))
+    ∙ cut-at space w (decimal n ++ (spaced ns ++ (space ∷ y))) h
+    ∙ ap (λ (z : List ℕ). w ∷ cut space z) (sym (append-assoc (decimal n) (spaced ns) (space ∷ y)))
+    ∙ ap (λ (ps : List (List ℕ)). w ∷ ps) (cut-more (decimal n) ns y (free-decimal space n (omega arith)))

@@ -1,0 +1,53 @@
+-- Text as bytes (document 01, 'Pairs'): decimal numbers, single spaces, a line feed at the end of each line; and texts taken apart again, by
+-- their bytes alone.
+--   ascii text      the bytes of a text: the codes of its characters
+--   lineFeed        the byte of a line feed
+--   space           the byte of a space
+--   line bytes      the bytes as a line, with a line feed at its end
+--   spaced ns       each number in decimal, after one space
+--   words text ns   the text, and the numbers after it
+--   cut c bytes     the pieces of the bytes between those that are c, one more than there are of these
+--   linesOf text    the pieces between line feeds. Where each line ends in a line feed, the last piece is empty
+--   wordsOf line    the pieces between spaces
+use mathlib.Core.Bool.{cond}
+use mathlib.Core.List.{List, [], _∷_, _++_}
+use Prim.Native.Char.{code}
+use Prim.Native.Nat.{ℕ}
+use Prim.Native.String.{String, [] as nil, _∷_ as _&_}
+use lib.Dec.{eqb}
+use Rattle.text.specs.Decimal.{decimal}
+
+abbrev pub ascii : String → List ℕ
+ascii nil = []
+ascii (c & text) = code c ∷ ascii text
+
+abbrev pub lineFeed : ℕ
+lineFeed = 10
+
+abbrev pub space : ℕ
+space = 32
+
+abbrev pub line : List ℕ → List ℕ
+line bytes = bytes ++ (lineFeed ∷ [])
+
+unfoldable pub spaced : List ℕ → List ℕ
+spaced [] = []
+spaced (n ∷ ns) = (space ∷ decimal n) ++ spaced ns
+
+abbrev pub words : String → List ℕ → List ℕ
+words text ns = ascii text ++ spaced ns
+
+-- the byte b before the first of the pieces
+abbrev pub onFirst : ℕ → List (List ℕ) → List (List ℕ)
+onFirst b [] = []
+onFirst b (piece ∷ pieces) = (b ∷ piece) ∷ pieces
+
+unfoldable pub cut : ℕ → List ℕ → List (List ℕ)
+cut c [] = [] ∷ []
+cut c (b ∷ bytes) = cond (eqb b c) ([] ∷ cut c bytes) (onFirst b (cut c bytes))
+
+abbrev pub linesOf : List ℕ → List (List ℕ)
+linesOf text = cut lineFeed text
+
+abbrev pub wordsOf : List ℕ → List (List ℕ)
+wordsOf line = cut space line

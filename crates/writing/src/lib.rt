@@ -1,0 +1,93 @@
+// Writing bytes and decimal numbers into a text slice, from a place on. Each function answers the place after what it wrote.
+ghost use mathlib.Core.List.{[], _∷_, _++_};
+ghost use Rattle.text.specs.Decimal.{decimal};
+ghost use Rattle.text.specs.Text.{line, spaced};
+ghost use Rattle.text.specs.Writing.{Room, Put};
+
+// Writes one byte.
+fn put_byte(text: &mut [u8], at: usize, byte: u8) -> usize
+    requires { ⌜ Room (byte ∷ []) (now text) at ⌝ }
+    ensures { λ r. ⌜ Put (byte ∷ []) (now (text .entry)) (now (text .exit)) at r ⌝ }
+{
+    text[at] = byte;
+    at + 1
+}
+
+// Writes the bytes.
+pub fn put_bytes(text: &mut [u8], at: usize, bytes: &[u8]) -> usize
+    requires { ⌜ Room (now bytes) (now text) at ⌝ }
+    ensures { λ r. ⌜ Put (now (bytes .entry)) (now (text .entry)) (now (text .exit)) at r ⌝ }
+{
+    let mut i = 0;
+    while i < bytes.len() {
+        text[at + i] = bytes[i];
+        i += 1;
+    }
+    at + i
+}
+
+// Writes the number in decimal: its tenth first, then the last digit.
+fn put_decimal(text: &mut [u8], at: usize, n: u64) -> usize
+    requires { ⌜ Room (decimal n) (now text) at ⌝ }
+    ensures { λ r. ⌜ Put (decimal n) (now (text .entry)) (now (text .exit)) at r ⌝ }
+{
+    let digit = 48 + (n % 10) as u8;
+    if n < 10 {
+        return put_byte(text, at, digit);
+    }
+    let last = put_decimal(text, at, n / 10);
+    put_byte(text, last, digit)
+}
+
+// Writes a space and the number.
+fn put_number(text: &mut [u8], at: usize, n: u64) -> usize
+    requires { ⌜ Room (spaced (n ∷ [])) (now text) at ⌝ }
+    ensures { λ r. ⌜ Put (spaced (n ∷ [])) (now (text .entry)) (now (text .exit)) at r ⌝ }
+{
+    let next = put_byte(text, at, b' ');
+    put_decimal(text, next, n)
+}
+
+// Writes the numbers, each after a space.
+fn put_numbers(text: &mut [u8], at: usize, ns: &[u64]) -> usize
+    requires { ⌜ Room (spaced (now ns)) (now text) at ⌝ }
+    ensures { λ r. ⌜ Put (spaced (now (ns .entry))) (now (text .entry)) (now (text .exit)) at r ⌝ }
+{
+    let mut next = at;
+    let mut i = 0;
+    while i < ns.len() {
+        next = put_number(text, next, ns[i]);
+        i += 1;
+    }
+    next
+}
+
+// Writes a word, the numbers, each after a space, and what ends them.
+pub fn put_words(text: &mut [u8], at: usize, word: &[u8], ns: &[u64], end: &[u8]) -> usize
+    requires { ⌜ Room (now word ++ spaced (now ns) ++ now end) (now text) at ⌝ }
+    ensures { λ r.
+        ⌜ Put (now (word .entry) ++ spaced (now (ns .entry)) ++ now (end .entry))
+        (now (text .entry)) (now (text .exit)) at r ⌝ }
+{
+    let numbers = put_bytes(text, at, word);
+    let last = put_numbers(text, numbers, ns);
+    put_bytes(text, last, end)
+}
+
+// Writes a line of two halves: a word and the numbers after it, and a sign and the numbers after that.
+pub fn put_halves(
+    text: &mut [u8],
+    at: usize,
+    word: &[u8],
+    ns: &[u64],
+    sign: &[u8],
+    ms: &[u64],
+) -> usize
+    requires { ⌜ Room (line (now word ++ spaced (now ns) ++ (now sign ++ spaced (now ms)))) (now text) at ⌝ }
+    ensures { λ r.
+        ⌜ Put (line (now (word .entry) ++ spaced (now (ns .entry)) ++ (now (sign .entry) ++ spaced (now (ms .entry)))))
+        (now (text .entry)) (now (text .exit)) at r ⌝ }
+{
+    let next = put_words(text, at, word, ns, sign);
+    put_words(text, next, b"", ms, b"\n")
+}

@@ -42,10 +42,13 @@ use Rattle.sizes.specs.declared.Refusal.{Refusal}
 use Rattle.sizes.specs.declared.Sizes.{Sizes}
 use Rattle.sizes.proofs.Ranges.{within-range}
 use Rattle.table_calls.specs.TableCalls.{cellsFit, TableCall, DifferenceCall, SumCall}
-use Rattle.tables.specs.Demand2.{Holds}
-use Rattle.tables.specs.Tables.{tableRefusal, cellsRefusal, madeTable, tableScratch, differenced, summedUp}
-use Rattle.tables.proofs.Answers.{passed, at-0, fits, made, table-0, table-accepted, scratch-accepted}
-use Rattle.tables.proofs.Demand2.{sumOfMade, differenceOfSum, sumOfDifference}
+use Rattle.cells.specs.Cells.{cellsRefusal}
+use Rattle.cells.proofs.Answers.{passed, at-0, fits}
+use Rattle.demand2.specs.Demand2.{Holds}
+use Rattle.demand2.proofs.Demand2.{sumOfMade, differenceOfSum, sumOfDifference}
+use Rattle.file_tables.specs.FileTables.{tableRefusal, madeTable, tableScratch}
+use Rattle.file_tables.proofs.Answers.{made, table-0, table-accepted, scratch-accepted}
+use Rattle.tables.specs.Tables.{differenced, summedUp}
 use Rattle.vectors.proofs.Held.{held-entry}
 use Rattle.callers.specs.AcceptedInC.{Checked, Stretched, From1To64, Bounded, Gridded, Evaluated, Tabled, Continued, Written, SumOfTableInC, DifferenceOfSumInC, SumOfDifferenceInC, AcceptedInC}
 use Rattle.callers.proofs.Refused.{right-told, right-left}

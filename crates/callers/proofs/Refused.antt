@@ -30,7 +30,9 @@ use Rattle.sessions.proofs.Cases.{scratch-refused}
 use Rattle.sessions.proofs.Step.{kept, answer-refusal}
 use Rattle.sizes.specs.declared.Refusal.{Refusal}
 use Rattle.table_calls.specs.TableCalls.{cellsFit, TableCall, DifferenceCall, SumCall}
-use Rattle.tables.specs.Tables.{tableRefusal, cellsRefusal, madeTable, tableScratch, differenced, summedUp}
+use Rattle.cells.specs.Cells.{cellsRefusal}
+use Rattle.file_tables.specs.FileTables.{tableRefusal, madeTable, tableScratch}
+use Rattle.tables.specs.Tables.{differenced, summedUp}
 use Rattle.callers.specs.RefusedInC.{Refused, NotAccepted, ContinueRefused, OpenRefused, EvaluateRefused, TableRefused, DifferenceRefused, SumRefused, RefusedInC}
 
 -- what the result tells of the layout

@@ -33,7 +33,8 @@ use Rattle.sizes.specs.Sizes.{within, badOutput, badInputs, badWidths, refusedB
 use Rattle.sizes.specs.declared.Refusal.{Refusal}
 use Rattle.sizes.specs.declared.Sizes.{Sizes}
 use Rattle.table_calls.specs.TableCalls.{cellsFit, TableCall, DifferenceCall, SumCall}
-use Rattle.tables.specs.Tables.{shortSlice, badCells, tableRefusal, cellsRefusal}
+use Rattle.cells.specs.Cells.{shortSlice, badCells, cellsRefusal}
+use Rattle.file_tables.specs.FileTables.{tableRefusal}
 use Rattle.callers.specs.SaidInC.{Says, boundRefusal, SaidInC}
 use Rattle.callers.proofs.Accepted.{wrote}
 

@@ -51,7 +51,7 @@ use Rattle.layouts.specs.SizeWords.{sizeWords, sizesFrom}
 use Rattle.session_calls.specs.SessionCalls.{ContinueCall}
 use Rattle.sizes.specs.declared.Sizes.{Sizes}
 use Rattle.table_calls.specs.TableCalls.{TableCall, DifferenceCall, SumCall}
-use Rattle.tables.specs.Tables.{tableOfFile}
+use Rattle.file_tables.specs.FileTables.{tableOfFile}
 
 pub record Checked (f o′ : List ℕ) : Type 0 where
   pub number : word o′ 0 ≡ fileNumber f

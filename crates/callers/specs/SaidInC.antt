@@ -20,7 +20,8 @@ use Rattle.sessions.specs.Session.{opened, continueRefusal}
 use Rattle.sizes.specs.Sizes.{within, refusedBy, accepted}
 use Rattle.sizes.specs.declared.Refusal.{Refusal}
 use Rattle.table_calls.specs.TableCalls.{TableCall, DifferenceCall, SumCall}
-use Rattle.tables.specs.Tables.{tableRefusal, cellsRefusal}
+use Rattle.cells.specs.Cells.{cellsRefusal}
+use Rattle.file_tables.specs.FileTables.{tableRefusal}
 
 pub record Says (q : Refusal) (o : List ℕ) : Type 0 where
   pub number : word o 0 ≡ q .number

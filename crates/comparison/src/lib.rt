@@ -1,10 +1,10 @@
 // Two files compared to their verdict, and the text that is printed of them.
 use conclusion::BUDGET;
 use conclusion::conclude;
-use fields::STEPS;
-use report::report;
 use continuing::continue_session;
+use fields::STEPS;
 use opening::open_session;
+use report::report;
 ghost use Prim.Native.Nat.{_≤_};
 ghost use lib.ListN.{length};
 ghost use Rattle.printed.specs.Report.{printed, textRoom};

@@ -1,8 +1,8 @@
 // A session continued to its verdict, as the comparing program does it.
+use continuing::continue_session;
 use sessions::Answer;
 use sessions::Mark;
 use sessions::Session;
-use continuing::continue_session;
 ghost use mathlib.Core.Path.{_≡_};
 ghost use lib.ListN.{length};
 ghost use Rattle.conclusion.specs.Conclusion.{Concluded};

@@ -2,14 +2,14 @@
 // fit a byte or the mark is not 0 to 2, continuing returns 0, with nothing touched. Opening takes any words of that length and overwrites them.
 use answer_words::ANSWER_LENGTH;
 use answer_words::put_answer;
+use continuing::continue_session;
+use opening::open_session;
 use refusal_words::REFUSAL_LENGTH;
 use refusal_words::put_refusal;
 use session_words::SESSION_LENGTH;
 use session_words::put_session;
 use session_words::session_fits;
 use session_words::session_from;
-use continuing::continue_session;
-use opening::open_session;
 ghost use Rattle.session_calls.specs.SessionCalls.{OpenCall, ContinueCall};
 
 // Opens a session on two files: session gets the session, and out the refusal.

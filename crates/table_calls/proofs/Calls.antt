@@ -9,8 +9,9 @@ use borrow.Author.Tests.{eq-eqb, ne-eqb}
 use Rattle.layouts.specs.AnswerWords.{refusalWords}
 use Rattle.layouts.specs.Lengths.{refusalLength}
 use Rattle.layouts.specs.SizeWords.{sizesFit, sizesFrom}
-use Rattle.tables.specs.Tables.{cellsRefusal}
-use Rattle.table_calls.specs.TableCalls.{cellsFit, transformed, TransformCall}
+use Rattle.cells.specs.Cells.{cellsRefusal}
+use Rattle.tables.specs.Tables.{transformed}
+use Rattle.table_calls.specs.TableCalls.{cellsFit, TransformCall}
 
 module _ (z o : List ℕ) where
   pub cells-out-wrong : ¬ (length o ≡ refusalLength) → cellsFit z o ≡ false

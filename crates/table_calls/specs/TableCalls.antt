@@ -4,8 +4,6 @@
 --   TransformCall     transform_call: summing or not
 --   DifferenceCall, SumCall   differencing and summing, the two cases of it
 --   cellsFit z o      the layout of both: the answer slice has a refusal's count of words, and the words z are sizes
---   transformed sum   the result slice after summing, or else after differencing
---   CellsCall         what summing or differencing promises of sizes that are no words: the refusal, and the slice that is written
 -- The fields of the calls in words:
 --   result    1 where the layout is right, else 0
 --   out       the answer slice gets the refusal
@@ -13,7 +11,7 @@
 --   written   the result slice: where the call is accepted its first G entries are the sums or the differences, and all else is untouched
 --   scratch   the scratch slice: where the call is accepted its first N entries are zero, and all else is untouched
 -- Where the call returns 0, every slice is as at entry.
-use mathlib.Core.Bool.{Bool, true, false, cond, _&&_}
+use mathlib.Core.Bool.{Bool, true, false, _&&_}
 use mathlib.Core.List.{List}
 use mathlib.Core.Path.{_≡_}
 use Prim.Native.Nat.{ℕ}
@@ -22,9 +20,9 @@ use Rattle.layouts.specs.AnswerWords.{refusalWords}
 use Rattle.layouts.specs.Layout.{has, returned, leaves}
 use Rattle.layouts.specs.Lengths.{refusalLength}
 use Rattle.layouts.specs.SizeWords.{sizesFit, sizesFrom}
-use Rattle.sizes.specs.declared.Refusal.{Refusal}
-use Rattle.sizes.specs.declared.Sizes.{Sizes}
-use Rattle.tables.specs.Tables.{tableRefusal, cellsRefusal, madeTable, tableScratch, differenced, summedUp}
+use Rattle.cells.specs.Cells.{cellsRefusal}
+use Rattle.file_tables.specs.FileTables.{tableRefusal, madeTable, tableScratch}
+use Rattle.tables.specs.Tables.{transformed}
 
 pub record TableCall (f s t o : List ℕ) (r : ℕ) (s′ t′ o′ : List ℕ) : Type 0 where
   pub result : r ≡ returned (has refusalLength o)
@@ -34,13 +32,6 @@ pub record TableCall (f s t o : List ℕ) (r : ℕ) (s′ t′ o′ : List ℕ) 
 
 unfoldable pub cellsFit : List ℕ → List ℕ → Bool
 cellsFit z o = has refusalLength o && sizesFit z
-
-abbrev pub transformed : Bool → Sizes → List ℕ → List ℕ → List ℕ
-transformed sum z cells before = cond sum (summedUp z cells before) (differenced z cells before)
-
-pub record CellsCall (z : Sizes) (cells : List ℕ) (sum : Bool) (before : List ℕ) (r : Refusal) (after : List ℕ) : Type 0 where
-  pub refusal : r ≡ cellsRefusal z cells (length before)
-  pub result : after ≡ transformed sum z cells before
 
 pub record TransformCall (sum : Bool) (z x y o : List ℕ) (r : ℕ) (y′ o′ : List ℕ) : Type 0 where
   pub result : r ≡ returned (cellsFit z o)

@@ -1,17 +1,12 @@
 // The calls on difference tables, in words. Sizes are words: m, d and the word lengths. Where they have another length, or a word does not fit
 // a byte, the call returns 0, with nothing touched.
+use file_tables::make_table;
 use refusal_words::REFUSAL_LENGTH;
 use refusal_words::put_refusal;
 use size_words::sizes_fit;
 use size_words::sizes_from;
-use sizes::Refusal;
-use sizes::Sizes;
-use tables::make_table;
-ghost use Rattle.table_calls.specs.TableCalls.{
-  TableCall,
-  CellsCall,
-  TransformCall,
-};
+use tables::transform_cells;
+ghost use Rattle.table_calls.specs.TableCalls.{TableCall, TransformCall};
 
 // The table of a file: out gets the refusal. Where the call is accepted, the first G table entries become the table, and the first N scratch
 // entries are zero afterwards; nothing else is touched.
@@ -27,16 +22,6 @@ pub fn table_call(file: &[u8], scratch: &mut [u64], table: &mut [u64], out: &mut
     let r = make_table(file, scratch, table);
     put_refusal(out, r);
     1
-}
-
-// Sums, or else differences, of the cells go into the result slice; the answer is the refusal.
-fn transform_cells(z: Sizes, cells: &[u64], result: &mut [u64], sum: bool) -> Refusal
-    ensures { λ r. ⌜ CellsCall z (now (cells .entry)) sum (now (result .entry)) r (now (result .exit)) ⌝ }
-{
-    if sum {
-        return tables::sum(z, cells, result);
-    }
-    tables::difference(z, cells, result)
 }
 
 // The outputs that a table sums to, or the table of given outputs: out gets the refusal. Where the call is accepted, the first G entries of

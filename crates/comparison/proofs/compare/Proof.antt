@@ -51,7 +51,7 @@ returns c =
     let called = c .before .before .before .before .before .continue-session in
     let e =
     reported-whole (now (a .file1)) (now (a .file2)) _ _ _ (entry o .pre)
-    ∙ ap (λ (r : Continued). reportOf (now (a .file1)) (now (a .file2)) (r .answer) 0) (called .ensures .0)
+    ∙ ap (λ (r : Continued). reportOf (now (a .file1)) (now (a .file2)) (r .answer) 0) (called .ensures .answer)
     ∙ ap (λ z. reportOf (now (a .file1)) (now (a .file2)) (continued (now (a .file1)) (now (a .file2)) z callBudget maxSteps .answer) 0) (opened-session o)
     ∙ refusedReported _ _ (λ z. refused .if1 .taken (opened-number o ∙ z)) callBudget maxSteps 0 (lit< tt) in
     written-as e (c .before .before .report .ensures)

@@ -31,7 +31,7 @@ turn :
 turn c =
     let s = c .before .before .before .before .before .before in
     let files = comparable _ _ (pair-accepted (now (s .args .file1)) (now (s .args .file2)) (s .pre .0)) in
-    rw (c .continue-session .ensures .0)
+    rw (c .continue-session .ensures .answer)
     (turned _ _ (s .pre .0) _ _ (c .before .before .loop .inv .0) _ _ (omega arith)
     (omega (arith, files .sound₁ .countHigh, files .sound₂ .countHigh, s .pre .1 .1, c .before .before .loop .inv .2)))
 
@@ -43,7 +43,7 @@ called :
 unfolding answerTo
 called c =
     let t = c .before .before in
-    rw (t .loop .inv .2, t .before .before .before .before .pre .1 .1) at (c .continue-session .ensures .0)
+    rw (t .loop .inv .2, t .before .before .before .before .pre .1 .1) at (c .continue-session .ensures .answer)
 
 loop-holds : tie.Need-loop-holds Inv-loop μ-loop
 loop-holds c =

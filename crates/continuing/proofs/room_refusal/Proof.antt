@@ -39,7 +39,7 @@ returns-2 c =
     let k = c .before .before .before .before .before .before .pre in
     let n = c .before .before .before .larger .ensures ∙ ap₂ max (plan.count₁ k) (plan.count₂ k) in
     c .state-refusal .ensures
-    ∙ ap₂ (λ w G. stateRefusal w G _) (c .before .read-sizes .ensures) (plan.vectors k)
+    ∙ ap₂ (λ w G. stateRefusal w G (a .session)) (c .before .read-sizes .ensures) (plan.vectors k)
     ∙ rw (le-ltb (a .room) (largerCount (now (a .file1)) (now (a .file2))) (omega (arith, c .before .before .if1 .left, n)))
 
 pub room-refusal-spec : {M : Type 1} → statement M

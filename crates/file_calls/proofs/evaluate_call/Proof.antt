@@ -39,8 +39,8 @@ returns-2 c =
     let m = evaluated c .evaluate .ensures in
     record {
       result = rw e;
-      out = rw e (c .before .before .copy-front .ensures ∙ all-written evaluateLength _ out refl long ∙ ap evaluateWords (m .0));
-      scratch = rw e (m .1);
+      out = rw e (c .before .before .copy-front .ensures ∙ all-written evaluateLength _ out refl long ∙ ap evaluateWords (m .answer));
+      scratch = rw e (m .scratch);
     }
 
 pub evaluate-call-spec : {M : Type 1} → statement M

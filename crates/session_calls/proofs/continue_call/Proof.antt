@@ -70,11 +70,11 @@ returns-3 c =
     let went = lent .before .before .before .before .before in
     let z = went .before .before .session-from .ensures in
     let o = went .continue-session .ensures in
-    let r = o .0 ∙ ap (λ y. continued (now (a .file1)) (now (a .file2)) y (a .budget) (length (now (a .scratch)))) z in
+    let r = o .answer ∙ ap (λ y. continued (now (a .file1)) (now (a .file2)) y (a .budget) (length (now (a .scratch)))) z in
     continue-right _ _ _ _ _ _ _ _ _
     (continue-judged _ _ (judged lent .before .before .before .if1 .left) ∙ fits (judged lent))
     (put c .put-session .ensures ∙ ap (λ (k : Continued). sessionWords (k .session)) r)
-    (o .1 ∙ ap (λ y. scratchAfter (now (a .file1)) (now (a .file2)) y (a .budget) (now (a .scratch))) z)
+    (o .scratch ∙ ap (λ y. scratchAfter (now (a .file1)) (now (a .file2)) y (a .budget) (now (a .scratch))) z)
     (c .before .before .put-answer .ensures ∙ ap (λ (k : Continued). answerWords (k .answer)) r)
 
 pub continue-call-spec : {M : Type 1} → statement M

@@ -40,9 +40,9 @@ returns-2 c =
     let m = made c .make-table .ensures in
     record {
       result = rw e;
-      out = rw e (c .before .before .put-refusal .ensures ∙ all-written refusalLength _ out refl long ∙ ap refusalWords (m .0));
-      table = rw e (m .1);
-      scratch = rw e (m .2);
+      out = rw e (c .before .before .put-refusal .ensures ∙ all-written refusalLength _ out refl long ∙ ap refusalWords (m .refusal));
+      table = rw e (m .table);
+      scratch = rw e (m .scratch);
     }
 
 pub table-call-spec : {M : Type 1} → statement M

@@ -10,8 +10,8 @@ use Rattle.layouts.specs.Lengths.{refusalLength}
 use Rattle.layouts.specs.SizeWords.{sizesFit}
 use Rattle.layouts.proofs.Told.{sizes-told}
 use Rattle.layouts.proofs.Written.{all-written}
-use Rattle.tables.specs.Tables.{cellsRefusal}
-use Rattle.table_calls.specs.TableCalls.{transformed}
+use Rattle.cells.specs.Cells.{cellsRefusal}
+use Rattle.tables.specs.Tables.{transformed}
 use Rattle.table_calls.proofs.Calls.{cells-out-wrong, cells-judged, transform-wrong, transform-right}
 use borrow.Author.Needs.{needs}
 use Rattle.table_calls.proofs.transform_call.Statement.{statement}

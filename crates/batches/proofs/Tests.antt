@@ -21,12 +21,12 @@ use Rattle.plan.proofs.Numbers as plan
 use Rattle.row_lanes.specs.Lanes.{unequal}
 use Rattle.rows.specs.Rows.{lane}
 use Rattle.rows.proofs.Writing.{before-row}
-use Rattle.search.specs.Search.{first}
-use Rattle.search.proofs.Search.{first-shift}
+use Rattle.ranges.specs.Search.{first}
+use Rattle.ranges.proofs.Search.{first-shift}
 use Rattle.sizes.specs.Sizes.{maxInputs}
 use Rattle.sizes.specs.declared.Sizes.{Sizes}
-use Rattle.steps.specs.Steps.{output}
-use Rattle.theorem.specs.Comparison.{differsAt}
+use Rattle.datapath.specs.Steps.{output}
+use Rattle.grid_theorem.specs.Comparison.{differsAt}
 use Rattle.batches.specs.Prepared.{Prepared}
 use Rattle.batches.specs.declared.Shape.{Shape}
 

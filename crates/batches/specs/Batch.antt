@@ -12,7 +12,7 @@ use lib.ListN.{length, getD}
 use Rattle.lanes.specs.Lanes.{LanesOnGrid}
 use Rattle.places.specs.Places.{size, vectorAt}
 use Rattle.rows.specs.Rows.{lane}
-use Rattle.search.specs.Search.{first}
+use Rattle.ranges.specs.Search.{first}
 use Rattle.sizes.specs.Sizes.{maxInputs}
 use Rattle.plan.specs.Comparison.{outputsDiffer}
 

@@ -10,8 +10,8 @@ use lib.Dec.{leb, eqb}
 use lib.ListN.{getD}
 use Rattle.integers.specs.Modulo.{factorial}
 use Rattle.integers.proofs.Divisibility.{factorial-mod}
-use Rattle.search.specs.Search.{every}
-use Rattle.search.proofs.Search.{every-at}
+use Rattle.ranges.specs.Search.{every}
+use Rattle.ranges.proofs.Search.{every-at}
 use Rattle.bound.specs.Bound.{bounds, bound, LeastBound}
 
 -- 2^(k + 1) divides L! and not (L − 1)!, where L is entry k

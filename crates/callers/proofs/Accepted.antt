@@ -31,7 +31,7 @@ use Rattle.layouts.specs.SessionWords.{sessionFrom}
 use Rattle.layouts.specs.SizeWords.{sizeWords, sizesFrom}
 use Rattle.layouts.proofs.Sessions.{file-widths, file-bytes}
 use Rattle.layouts.proofs.Sizes.{sizesAsWords}
-use Rattle.search.proofs.Search.{true-or-false}
+use Rattle.ranges.proofs.Search.{true-or-false}
 use Rattle.session_calls.specs.SessionCalls.{continueFits, continuing, ContinueCall}
 use Rattle.sessions.specs.Calls.{answerTo}
 use Rattle.sessions.specs.Session.{isRefusal, continueRefusal}

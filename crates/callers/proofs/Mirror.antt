@@ -18,7 +18,7 @@ use Rattle.layouts.specs.Lengths.{word, atNumber, atKind, atRun, answerLength}
 use Rattle.layouts.specs.SessionWords.{sessionWords, sessionFits, sessionFrom}
 use Rattle.layouts.specs.Statement.{Held}
 use Rattle.layouts.proofs.Sessions.{sessionsAsWords}
-use Rattle.search.proofs.Search.{true-or-false}
+use Rattle.ranges.proofs.Search.{true-or-false}
 use Rattle.session_calls.specs.SessionCalls.{continueFits}
 use Rattle.sessions.specs.Calls.{Call, answerTo, sessionAfter, answers, acceptedBudget, budgets as acceptedBudgets, vectorsRun, Each as EachAnswer, IsRefused as RefusedAnswer}
 use Rattle.sessions.specs.Demand3.{OwnFiles as OwnCall, Allowed as AllowedCalls}

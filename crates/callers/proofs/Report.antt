@@ -22,7 +22,7 @@ use Rattle.printed.proofs.Printed.{refusedText}
 use Rattle.printed.proofs.Shown.{noText, shownAsIs}
 use Rattle.printed.proofs.Texts.{report-spent}
 use Rattle.report_calls.specs.ReportCalls.{reportFits, reportText, ReportCall}
-use Rattle.search.proofs.Search.{true-or-false}
+use Rattle.ranges.proofs.Search.{true-or-false}
 use Rattle.session_calls.specs.SessionCalls.{openFits, continueFits}
 use Rattle.sessions.specs.Calls.{answerTo, sessionAfter, IsVerdict}
 use Rattle.sessions.specs.Demand3.{start}

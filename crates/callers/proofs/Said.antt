@@ -23,7 +23,7 @@ use Rattle.layouts.specs.Layout.{has}
 use Rattle.layouts.specs.Lengths.{word}
 use Rattle.layouts.specs.SessionWords.{sessionFrom}
 use Rattle.layouts.specs.SizeWords.{sizesFrom}
-use Rattle.search.proofs.Search.{true-or-false}
+use Rattle.ranges.proofs.Search.{true-or-false}
 use Rattle.session_calls.specs.SessionCalls.{openFits, OpenCall, continueFits, continuing, ContinueCall}
 use Rattle.sessions.specs.Session.{sameSizes, isRefusal, pairRefusal, misplaced, isClosed, stateRefusal, opened, continueRefusal, refusedAnswer, advanced, continued}
 use Rattle.sessions.specs.declared.Answer.{Answer}

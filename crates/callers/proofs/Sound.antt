@@ -12,7 +12,7 @@ use Rattle.file.specs.Check.{maxSteps, faultyAt, faultyStep, operandsRule, argu
 use Rattle.fields.specs.File.{sizesOf, stepCount, operation, argument, leftOperand, rightOperand, upperHalf}
 use Rattle.file.proofs.Cases.{head-0, step-0, faultless, rule-input, rule-constant, rule-operands}
 use Rattle.file.proofs.Number.{refused-none, refusal-number}
-use Rattle.search.proofs.Search.{first-absent, every-of}
+use Rattle.ranges.proofs.Search.{first-absent, every-of}
 use Rattle.sizes.specs.Sizes.{within, maxInputs, badOutput, badInputs, badWidths, widthRule}
 use Rattle.sizes.specs.declared.Refusal.{Refusal}
 use Rattle.sizes.proofs.Ranges.{rule-used, rule-unused}

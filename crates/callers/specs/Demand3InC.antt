@@ -32,7 +32,7 @@ use Rattle.layouts.specs.Lengths.{word, atNumber, atPosition, atMark, atVector,
 use Rattle.session_calls.specs.SessionCalls.{OpenCall}
 use Rattle.sessions.specs.Demand3.{stop, StopInRange, stopVector, FullWidth}
 use Rattle.sizes.specs.Sizes.{maxInputs}
-use Rattle.theorem.specs.Comparison.{IsFirst}
+use Rattle.grid_theorem.specs.Comparison.{IsFirst}
 use Rattle.callers.specs.Made.{Made, kind, Chain, left, Each, IsRefused, GivesVerdict, OwnFiles, Allowed, budgets, runs}
 
 pub record ShowsFirstInC (f₁ f₂ : List ℕ) (c : Made) : Type 0 where

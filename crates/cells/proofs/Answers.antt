@@ -9,7 +9,7 @@ use lib.ListN.{length, getD}
 use borrow.Author.Tests.{lt-ltb, le-ltb, ltb-true, ltb-false, not-false}
 use Rattle.grid.specs.Grid.{gridSize, tooLarge}
 use Rattle.grid.proofs.Axes.{never-large}
-use Rattle.search.proofs.Search.{every-at, every-of}
+use Rattle.ranges.proofs.Search.{every-at, every-of}
 use Rattle.sizes.specs.Sizes.{badOutput, badInputs, badWidths, refusedBy, accepted}
 use Rattle.sizes.specs.declared.Refusal.{Refusal}
 use Rattle.sizes.specs.declared.Sizes.{Sizes}

@@ -10,7 +10,7 @@ use Prim.Native.Nat.{ℕ, _^_}
 use lib.Dec.{ltb}
 use lib.ListN.{length, getD}
 use Rattle.grid.specs.Grid.{gridSize, tooLarge}
-use Rattle.search.specs.Search.{every}
+use Rattle.ranges.specs.Search.{every}
 use Rattle.sizes.specs.Sizes.{badOutput, badInputs, badWidths, refusedBy, accepted}
 use Rattle.sizes.specs.declared.Refusal.{Refusal}
 use Rattle.sizes.specs.declared.Sizes.{Sizes}

@@ -11,7 +11,7 @@ use native.Mathlib.Omega.{arith}
 use Rattle.engine.specs.Engine.{largerCount}
 use Rattle.fields.specs.File.{sizesOf}
 use Rattle.grid.specs.Grid.{gridSize}
-use Rattle.search.proofs.Search.{true-or-false}
+use Rattle.ranges.proofs.Search.{true-or-false}
 use Rattle.sessions.specs.Calls.{Call, answerTo, IsVerdict, acceptedBudget}
 use Rattle.sessions.specs.Demand3.{OwnFiles, firstPlace, stop, start}
 use Rattle.sessions.specs.Session.{pairRefusal, isRefusal, opened, continued}

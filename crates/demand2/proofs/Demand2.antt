@@ -28,7 +28,7 @@ use Rattle.places.specs.Places.{size, vectorAt}
 use Rattle.sizes.specs.Sizes.{badOutput, badInputs, badWidths, accepted}
 use Rattle.sizes.specs.declared.Refusal.{Refusal}
 use Rattle.sizes.specs.declared.Sizes.{Sizes}
-use Rattle.steps.specs.Steps.{exact}
+use Rattle.datapath.specs.Steps.{exact}
 use Rattle.tables.specs.Tables.{differencesOf, sumsOf, differenced, summedUp}
 use Rattle.tables.proofs.Answers.{differenced-accepted, summed-accepted}
 use Rattle.demand2.specs.Demand2.{SumOfMade, DifferenceOfSum, SumOfDifference}

@@ -13,10 +13,10 @@ use lib.Seq.{getD-at}
 use Rattle.fields.specs.File.{stepCount}
 use Rattle.fields.specs.Steps.{stepAt, stepsOf}
 use Rattle.fields.proofs.Steps.{steps-at}
-use Rattle.steps.specs.Steps.{stepValue, values}
-use Rattle.steps.specs.declared.Step.{Step}
-use Rattle.steps.specs.declared.Step.the-variants.{Input, Constant, Add, Subtract, Multiply}
-use Rattle.steps.proofs.Values.{length-values, values-more}
+use Rattle.datapath.specs.Steps.{stepValue, values}
+use Rattle.datapath.specs.declared.Step.{Step}
+use Rattle.datapath.specs.declared.Step.the-variants.{Input, Constant, Add, Subtract, Multiply}
+use Rattle.datapath.proofs.Values.{length-values, values-more}
 use Rattle.dependence.specs.Dependence.{valueAt, Fixed}
 
 -- value i is the same in the list of all values and in that of the first i + 1

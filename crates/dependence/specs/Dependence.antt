@@ -21,7 +21,7 @@ use lib.ListN.{length, getD}
 use Rattle.fields.specs.File.{stepCount}
 use Rattle.fields.specs.Steps.{stepsOf}
 use Rattle.slices.specs.Slices.{KeptPast}
-use Rattle.steps.specs.Steps.{values}
+use Rattle.datapath.specs.Steps.{values}
 
 unfoldable pub valueAt : List ℕ → List ℕ → ℕ → ℤ
 valueAt s x i = getD (values (stepsOf s) x (stepCount s)) i (pos 0)

@@ -12,7 +12,7 @@ use Rattle.file.specs.Check.{fileNumber, refusalOf}
 use Rattle.fields.specs.File.{sizesOf, stepCount}
 use Rattle.file.proofs.Number.{refusal-number}
 use Rattle.sizes.specs.Sizes.{refusedBy, accepted}
-use Rattle.search.proofs.Search.{true-or-false}
+use Rattle.ranges.proofs.Search.{true-or-false}
 use Rattle.sizes.specs.declared.Refusal.{Refusal}
 use Rattle.sizes.specs.declared.Sizes.{Sizes}
 use Rattle.evaluate.specs.Evaluate.{outputOf, badVector, refusalAt, accepts, evaluatedAt, scratchAfter}

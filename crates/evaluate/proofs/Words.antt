@@ -13,10 +13,10 @@ use Rattle.fields.specs.Steps.{stepAt, stepsOf}
 use Rattle.fields.proofs.Steps.{steps-length}
 use Rattle.integers.specs.Modulo.{remainder}
 use Rattle.integers.proofs.Remainder.{remainder-pos}
-use Rattle.steps.specs.Steps.{stepValue, values, exact, output}
-use Rattle.steps.specs.declared.Step.{Step}
-use Rattle.steps.specs.declared.Step.the-variants.{Input, Constant, Add, Subtract, Multiply}
-use Rattle.steps.proofs.Values.{length-values, values-entries}
+use Rattle.datapath.specs.Steps.{stepValue, values, exact, output}
+use Rattle.datapath.specs.declared.Step.{Step}
+use Rattle.datapath.specs.declared.Step.the-variants.{Input, Constant, Add, Subtract, Multiply}
+use Rattle.datapath.proofs.Values.{length-values, values-entries}
 use Rattle.words.specs.Words.{word}
 use Rattle.words.proofs.Congruence.{word-cut, word-add, word-sub, word-mul}
 use Rattle.evaluate.specs.Evaluate.{outputOf}

@@ -14,12 +14,12 @@ use Rattle.bound.specs.Axes.{range}
 use Rattle.file.specs.Check.{fileNumber, refusalOf}
 use Rattle.fields.specs.File.{sizesOf, stepCount}
 use Rattle.fields.specs.Steps.{stepsOf}
-use Rattle.search.specs.Search.{every}
+use Rattle.ranges.specs.Search.{every}
 use Rattle.sizes.specs.Sizes.{refusedBy, accepted}
 use Rattle.sizes.specs.declared.Refusal.{Refusal}
 use Rattle.sizes.specs.declared.Sizes.{Sizes}
 use Rattle.slices.specs.Slices.{cleared}
-use Rattle.steps.specs.Steps.{output}
+use Rattle.datapath.specs.Steps.{output}
 use Rattle.evaluate.specs.declared.Evaluated.{Evaluated}
 
 unfoldable pub outputOf : List ℕ → List ℕ → ℕ

@@ -17,7 +17,7 @@ use Rattle.fields.specs.File.{sizesOf, stepCount}
 use Rattle.fields.specs.Steps.{stepAt, stepsOf}
 use Rattle.file.specs.Accepted.{Accepted}
 use Rattle.slices.specs.Slices.{KeptPast}
-use Rattle.steps.specs.Steps.{stepValue, values}
+use Rattle.datapath.specs.Steps.{stepValue, values}
 use Rattle.words.specs.Words.{word}
 use Rattle.evaluate.specs.Evaluate.{outputOf, evaluatedAt, scratchAfter}
 use Rattle.evaluate.specs.declared.Evaluated.{Evaluated}

@@ -8,7 +8,7 @@ use sizes::Refusal;
 use sizes::Sizes;
 use sizes::refused_by;
 use slices::clear;
-use steps::Step;
+use datapath::Step;
 use words::cut;
 use words::wrapping_mul;
 ghost use mathlib.Core.Path.{_≡_};

@@ -7,7 +7,7 @@ use native.Mathlib.Nat.{add-zero, zero-add, le-of-suc-le-suc, not-suc-le-zero}
 use native.Mathlib.Omega.{arith}
 use borrow.Author.Tests.{ne-eqb}
 use lib.ListN.{length, getD}
-use Rattle.steps.specs.declared.Step.the-variants.{Input, Constant, Add, Subtract, Multiply}
+use Rattle.datapath.specs.declared.Step.the-variants.{Input, Constant, Add, Subtract, Multiply}
 use Rattle.fields.specs.File.{stepCount, operation, argument, leftOperand, rightOperand}
 use Rattle.fields.specs.Steps.{decoded, stepAt, stepsFrom, stepsOf}
 

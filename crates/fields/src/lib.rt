@@ -1,7 +1,7 @@
 // The fields of a datapath file, read from its bytes, and its steps.
 use sizes::INPUTS;
 use sizes::Sizes;
-use steps::Step;
+use datapath::Step;
 use words::le16;
 use words::le64;
 ghost use mathlib.Core.Path.{_≡_};

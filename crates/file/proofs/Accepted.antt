@@ -8,9 +8,9 @@ use native.Mathlib.Decide.{ℕ-discrete}
 use native.Mathlib.Omega.{arith}
 use lib.Dec.{ltb, eqb}
 use borrow.Author.Tests.{ltb-true, eqb-true, not-false}
-use Rattle.search.proofs.Search.{first-before}
+use Rattle.ranges.proofs.Search.{first-before}
 use Rattle.sizes.proofs.Ranges.{within-range, output-range, inputs-range, width-used, width-unused}
-use Rattle.steps.specs.declared.Step.{Step}
+use Rattle.datapath.specs.declared.Step.{Step}
 use Rattle.fields.specs.Steps.{stepAt}
 use Rattle.fields.proofs.Steps.{step-input, step-constant, step-add, step-subtract, step-otherwise}
 use Rattle.file.specs.Accepted.{Accepted, Counted, StepRule}

@@ -10,7 +10,7 @@ use lib.Dec.{leb}
 use lib.ListN.{length, getD, take, drop, length-append, length-drop, List·getD-append}
 use lib.Seq.{take-append-le, drop-append-le}
 use borrow.Author.Tests.{le-ltb, ne-eqb, leb-true, not-false}
-use Rattle.search.proofs.Search.{true-or-false}
+use Rattle.ranges.proofs.Search.{true-or-false}
 use Rattle.sizes.specs.Sizes.{maxInputs, within, badOutput, badInputs, badWidths}
 use Rattle.sizes.specs.declared.Sizes.{Sizes}
 use Rattle.words.specs.Bytes.{little}

@@ -9,7 +9,7 @@ use native.Mathlib.Omega.{arith}
 use lib.Dec.{ltb, eqb, lit≤}
 use lib.ListN.{length}
 use borrow.Author.Tests.{lt-ltb, le-ltb, lt-leb, le-leb, eq-eqb, ne-eqb, ltb-true, ltb-false, eqb-true, eqb-false, not-true, not-false}
-use Rattle.search.proofs.Search.{true-or-false, first-found}
+use Rattle.ranges.proofs.Search.{true-or-false, first-found}
 use Rattle.sizes.specs.Sizes.{within, badOutput, badInputs, badWidths}
 use Rattle.fields.specs.File.{headLength, sizesOf, stepCount, operationsOf}
 use Rattle.file.specs.Check.{maxSteps, tooShort, badCount, badLength, badOperation, badArgument, stepFault, faultyAt, faultyStep, headFault, fileNumber, shownStep, refusalOf, stretchOf}

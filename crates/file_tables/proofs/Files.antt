@@ -26,7 +26,7 @@ use Rattle.integers.proofs.Remainder.{remainder-pos, remainder-lt}
 use Rattle.places.specs.Places.{Below, size, vectorAt}
 use Rattle.sizes.specs.Sizes.{maxInputs, Sound}
 use Rattle.sizes.specs.declared.Sizes.{Sizes}
-use Rattle.steps.specs.Steps.{exact, output}
+use Rattle.datapath.specs.Steps.{exact, output}
 use Rattle.tables.specs.Tables.{differencesOf, sumsOf}
 use Rattle.tables.proofs.Fronts.{in-place}
 use Rattle.transform.specs.Transform.{transformOf}

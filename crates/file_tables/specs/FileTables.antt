@@ -23,7 +23,7 @@ use Rattle.grid.specs.Grid.{axesOf, gridSize, tooLarge}
 use Rattle.sizes.specs.Sizes.{refusedBy, accepted}
 use Rattle.sizes.specs.declared.Refusal.{Refusal}
 use Rattle.slices.specs.Slices.{cleared}
-use Rattle.steps.specs.Steps.{exact}
+use Rattle.datapath.specs.Steps.{exact}
 use Rattle.tables.specs.Tables.{accepts}
 
 unfoldable pub tableRefusal : List ℕ → ℕ → ℕ → Refusal

@@ -11,7 +11,7 @@ use Rattle.evaluate.specs.Evaluate.{outputOf}
 use Rattle.fields.specs.File.{sizesOf, stepCount}
 use Rattle.fields.proofs.Steps.{steps-length}
 use Rattle.rows.specs.Rows.{maxLanes, lane}
-use Rattle.steps.specs.Steps.{exact, output}
+use Rattle.datapath.specs.Steps.{exact, output}
 use Rattle.lanes.specs.Lanes.{fewLanes, Width, Held, Shown, Room}
 
 pub width-most : {w : ℕ} → Width w → w ≤ maxLanes

@@ -9,7 +9,7 @@ use row_sums::subtract_rows;
 use rows::LANES;
 use rows::copy_row;
 use rows::fill_row;
-use steps::Step;
+use datapath::Step;
 ghost use Prim.Native.Nat.{_≤_, _<_};
 ghost use Rattle.dependence.specs.Dependence.{Listed};
 ghost use Rattle.rows.specs.Rows.{Operands};

@@ -11,7 +11,7 @@ use lib.ListN.{length, getD, take, length-append, length-take, length-map, lengt
 use Rattle.fields.specs.File.{sizesOf}
 use Rattle.grid.specs.Grid.{axesOf}
 use Rattle.places.specs.Places.{vectorAt}
-use Rattle.search.proofs.Search.{true-or-false}
+use Rattle.ranges.proofs.Search.{true-or-false}
 use Rattle.sessions.specs.Session.{isRefusal, continueRefusal, refusedAnswer, plainAnswer, differsAnswer, progress, advanced, continued}
 use Rattle.sessions.specs.declared.Answer.{Answer}
 use Rattle.sessions.specs.declared.Kind.{Kind}

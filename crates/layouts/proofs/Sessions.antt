@@ -11,7 +11,7 @@ use lib.Dec.{leb, ltb}
 use lib.ListN.{length, getD, take, length-append, length-take, length-drop, length-replicate, getD-replicate, List·getD-append}
 use Rattle.file.specs.Accepted.{Accepted}
 use Rattle.fields.specs.File.{headLength, sizesOf}
-use Rattle.search.proofs.Search.{true-or-false}
+use Rattle.ranges.proofs.Search.{true-or-false}
 use Rattle.sessions.specs.Session.{isRefusal, pairRefusal, noSession, opened, continueRefusal, progress, advanced, continued}
 use Rattle.sessions.specs.declared.Mark.{Mark}
 use Rattle.sessions.specs.declared.Mark.the-variants.{Open, Equal, Differ}

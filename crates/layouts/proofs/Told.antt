@@ -8,7 +8,7 @@ use native.Mathlib.Omega.{arith}
 use lib.Dec.{leb, eqb}
 use lib.ListN.{length}
 use borrow.Author.Tests.{ltb-true, lt-ltb, leb-true, le-leb, eqb-true, eq-eqb}
-use Rattle.search.proofs.Search.{every-at, every-of}
+use Rattle.ranges.proofs.Search.{every-at, every-of}
 use Rattle.layouts.specs.AnswerWords.{answerFits}
 use Rattle.layouts.specs.Lengths.{word, sizesLength, atMark, sessionLength, atKind, answerLength}
 use Rattle.layouts.specs.SessionWords.{sessionFits}

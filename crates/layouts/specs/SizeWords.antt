@@ -11,7 +11,7 @@ use mathlib.Core.Path.{_≡_}
 use Prim.Native.Nat.{ℕ, _≤_, _<_}
 use lib.Dec.{ltb, eqb}
 use lib.ListN.{length, getD, take, drop}
-use Rattle.search.specs.Search.{every}
+use Rattle.ranges.specs.Search.{every}
 use Rattle.sizes.specs.Sizes.{maxInputs}
 use Rattle.sizes.specs.declared.Sizes.{Sizes}
 use Rattle.layouts.specs.Lengths.{word, atM, atD, atWidths, sizesLength}

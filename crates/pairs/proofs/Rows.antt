@@ -19,14 +19,14 @@ use Rattle.grid.specs.Grid.{axesOf, gridSize, tooLarge}
 use Rattle.integers.specs.Modulo.{remainder}
 use Rattle.places.specs.Places.{size, vectorAt}
 use Rattle.printed.specs.Listings.{a·dp, b·dp}
-use Rattle.search.specs.Search.{first, every}
+use Rattle.ranges.specs.Search.{first, every}
 use Rattle.sessions.specs.Calls.{answerTo, answers, vectorsRun}
 use Rattle.sessions.specs.Demand3.{start, firstPlace, stop}
 use Rattle.sessions.specs.Session.{sameSizes, pairRefusal, noSession, opened, misplaced, isClosed, stateRefusal, continueRefusal, refusedAnswer, plainAnswer, differsAnswer, progress, advanced, continued}
 use Rattle.sessions.specs.declared.Answer.{Answer}
 use Rattle.sizes.specs.Sizes.{badOutput, badInputs, widthRule, badWidths}
-use Rattle.steps.specs.Steps.{stepValue, values, exact, output}
-use Rattle.theorem.specs.Comparison.{differsAt, firstDifference}
+use Rattle.datapath.specs.Steps.{stepValue, values, exact, output}
+use Rattle.grid_theorem.specs.Comparison.{differsAt, firstDifference}
 use Rattle.words.specs.Bytes.{little}
 use Rattle.pairs.specs.Written.{x, number, joined, power, bytes, operationByte, argumentOf, argumentBytes, written}
 use Rattle.pairs.specs.Pairs.{

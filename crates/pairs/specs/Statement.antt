@@ -24,7 +24,7 @@ use Rattle.fields.specs.File.{sizesOf}
 use Rattle.fields.specs.Steps.{stepsOf}
 use Rattle.sessions.specs.declared.Answer.{Answer}
 use Rattle.sizes.specs.Sizes.{maxInputs}
-use Rattle.steps.specs.Steps.{exact}
+use Rattle.datapath.specs.Steps.{exact}
 use Rattle.pairs.specs.Holds.{Holds}
 use Rattle.pairs.specs.Pairs as table
 use Rattle.pairs.specs.Pairs.{Pair, spent, equivalent, differs}

@@ -11,8 +11,8 @@ use mathlib.Core.List.{List, [], _∷_, _++_, map}
 use Prim.Native.Nat.{ℕ, zero, suc, _+_, _-_, _*_, _/_, _%_, _^_}
 use lib.ListN.{length, replicate}
 use Rattle.sizes.specs.Sizes.{maxInputs}
-use Rattle.steps.specs.declared.Step.{Step}
-use Rattle.steps.specs.declared.Step.the-variants.{Input, Constant, Add, Subtract, Multiply}
+use Rattle.datapath.specs.declared.Step.{Step}
+use Rattle.datapath.specs.declared.Step.the-variants.{Input, Constant, Add, Subtract, Multiply}
 
 abbrev pub Expression : Type 0
 Expression = ℕ → List Step

@@ -15,9 +15,9 @@ use Rattle.file.specs.Accepted.{Accepted}
 use Rattle.fields.specs.File.{sizesOf, stepCount}
 use Rattle.fields.specs.Steps.{stepsOf}
 use Rattle.grid.specs.Grid.{axesOf}
-use Rattle.search.specs.Search.{first}
+use Rattle.ranges.specs.Search.{first}
 use Rattle.slices.specs.Slices.{KeptPast}
-use Rattle.theorem.specs.Comparison.{differsAt}
+use Rattle.grid_theorem.specs.Comparison.{differsAt}
 
 unfoldable pub outputsDiffer : List ℕ → List ℕ → ℕ → Bool
 outputsDiffer s₁ s₂ = differsAt (sizesOf s₁ .m) (axesOf (sizesOf s₁)) (stepsOf s₁) (stepsOf s₂)

@@ -9,12 +9,12 @@ use Rattle.fields.specs.Steps.{decoded, stepAt, stepsFrom, stepsOf}
 use Rattle.grid.specs.Grid.{axesOf, gridSize, tooLarge}
 use Rattle.integers.specs.Modulo.{remainder}
 use Rattle.places.specs.Places.{size, vectorAt}
-use Rattle.search.specs.Search.{first, every}
+use Rattle.ranges.specs.Search.{first, every}
 use Rattle.sessions.specs.Demand3.{firstPlace, stop}
 use Rattle.sessions.specs.Session.{sameSizes, pairRefusal, noSession, opened}
 use Rattle.sizes.specs.Sizes.{badOutput, badInputs, widthRule, badWidths}
-use Rattle.steps.specs.Steps.{stepValue, values, exact, output}
-use Rattle.theorem.specs.Comparison.{differsAt, firstDifference}
+use Rattle.datapath.specs.Steps.{stepValue, values, exact, output}
+use Rattle.grid_theorem.specs.Comparison.{differsAt, firstDifference}
 use Rattle.words.specs.Bytes.{little}
 use Rattle.text.specs.Decimal.{digitsOf, decimal}
 use Rattle.printed.specs.Listings.{a·dp, b·dp, listed, Listings}

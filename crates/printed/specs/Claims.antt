@@ -32,7 +32,7 @@ use Rattle.sessions.specs.declared.Answer.{Answer}
 use Rattle.sessions.specs.declared.Kind.the-variants.{Refused, Spent, Equivalent, Differs}
 use Rattle.sizes.specs.Sizes.{maxInputs}
 use Rattle.sizes.specs.declared.Refusal.{Refusal}
-use Rattle.theorem.specs.Comparison.{IsFirst}
+use Rattle.grid_theorem.specs.Comparison.{IsFirst}
 use Rattle.text.specs.Decimal.{decimal}
 use Rattle.printed.specs.Report.{printed, reportOf, textRoom}
 use Rattle.text.specs.Text.{ascii, linesOf, wordsOf}

@@ -5,7 +5,7 @@ ghost use mathlib.Core.Path.{_≡_};
 ghost use Prim.Native.Nat.{_*_, _≤_, _<_};
 ghost use lib.ListN.{length};
 ghost use Rattle.rows.specs.Rows.{HasRow};
-ghost use Rattle.search.specs.Search.{first};
+ghost use Rattle.ranges.specs.Search.{first};
 ghost use Rattle.sizes.specs.Sizes.{maxInputs};
 ghost use Rattle.row_lanes.specs.Lanes.{Column, unequal};
 

@@ -12,7 +12,7 @@ use Rattle.evaluate.specs.Evaluate.{shortScratch}
 use Rattle.fields.specs.File.{sizesOf}
 use Rattle.grid.specs.Grid.{axesOf, gridSize}
 use Rattle.places.specs.Places.{vectorAt}
-use Rattle.search.specs.Search.{first}
+use Rattle.ranges.specs.Search.{first}
 use Rattle.sizes.specs.Sizes.{refusedBy}
 use Rattle.sessions.specs.Session.{sameSizes, pairRefusal, isRefusal, misplaced, isClosed, stateRefusal, filesRefusal, roomRefusal, continueRefusal, refusedAnswer, plainAnswer, differsAnswer, movedTo, progress, advanced, continued, scratchAfter}
 use Rattle.sessions.specs.declared.Answer.{Answer}

@@ -16,7 +16,7 @@ use Rattle.fields.specs.File.{sizesOf}
 use Rattle.file.proofs.Accepted.{accepted}
 use Rattle.file.proofs.Number.{refusal-number}
 use Rattle.grid.proofs.Axes.{never-large}
-use Rattle.search.proofs.Search.{every-at}
+use Rattle.ranges.proofs.Search.{every-at}
 use Rattle.sizes.specs.Sizes.{maxInputs, refusedBy}
 use Rattle.sizes.specs.declared.Refusal.{Refusal}
 use Rattle.sizes.specs.declared.Sizes.{Sizes}

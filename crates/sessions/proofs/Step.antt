@@ -18,12 +18,12 @@ use Rattle.engine.specs.Engine.{outputsDiffer, largerCount}
 use Rattle.fields.specs.File.{sizesOf}
 use Rattle.grid.specs.Grid.{axesOf, gridSize}
 use Rattle.places.specs.Places.{vectorAt}
-use Rattle.search.specs.Search.{first}
-use Rattle.search.proofs.Search.{every-of, first-high, first-found, first-before, first-unique, first-absent, true-or-false}
+use Rattle.ranges.specs.Search.{first}
+use Rattle.ranges.proofs.Search.{every-of, first-high, first-found, first-before, first-unique, first-absent, true-or-false}
 use Rattle.sizes.specs.Sizes.{maxInputs, accepted}
 use Rattle.sizes.specs.declared.Refusal.{Refusal}
 use Rattle.sizes.specs.declared.Sizes.{Sizes}
-use Rattle.theorem.specs.Comparison.{firstDifference}
+use Rattle.grid_theorem.specs.Comparison.{firstDifference}
 use Rattle.sessions.specs.Calls.{Call, answerTo, acceptedBudget, IsRefused, IsVerdict}
 use Rattle.sessions.specs.Demand3.{OwnFiles, firstPlace, stop}
 use Rattle.sessions.specs.Session.{sameSizes, pairRefusal, isRefusal, misplaced, isClosed, stateRefusal, continueRefusal, refusedAnswer, plainAnswer, differsAnswer, progress, advanced, continued}

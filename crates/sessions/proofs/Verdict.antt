@@ -15,9 +15,9 @@ use Rattle.grid.specs.Grid.{widthsOf, axesOf, gridSize}
 use Rattle.grid.proofs.Axes.{size-least}
 use Rattle.places.specs.Places.{vectorAt}
 use Rattle.sizes.specs.declared.Sizes.{Sizes}
-use Rattle.theorem.specs.Comparison.{Agree, IsFirst}
-use Rattle.theorem.specs.Statement.{OnGrid}
-use Rattle.theorem.proofs.Grid.{gridTheorem}
+use Rattle.grid_theorem.specs.Comparison.{Agree, IsFirst}
+use Rattle.grid_theorem.specs.Statement.{OnGrid}
+use Rattle.grid_theorem.proofs.Grid.{gridTheorem}
 use Rattle.sessions.specs.Calls.{IsVerdict}
 use Rattle.sessions.specs.Demand3.{firstPlace, stop, FullWidth, stopVector, StopInRange, Settled, MarkOf}
 use Rattle.sessions.specs.Session.{pairRefusal, isRefusal, plainAnswer, differsAnswer}

@@ -28,7 +28,7 @@ use Rattle.fields.specs.File.{sizesOf}
 use Rattle.fields.specs.Steps.{stepsOf}
 use Rattle.grid.specs.Grid.{widthsOf, axesOf, gridSize}
 use Rattle.places.specs.Places.{Below, vectorAt}
-use Rattle.theorem.specs.Comparison.{firstDifference, IsFirst}
+use Rattle.grid_theorem.specs.Comparison.{firstDifference, IsFirst}
 use Rattle.sessions.specs.Calls.{Call, answerTo, sessionAfter, answers, IsRefused, IsVerdict, budgets, vectorsRun, Each}
 use Rattle.vectors.specs.Vectors.{held}
 use Rattle.sessions.specs.Session.{opened}

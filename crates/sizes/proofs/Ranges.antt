@@ -7,7 +7,7 @@ use native.Mathlib.Omega.{arith}
 use lib.Dec.{leb, eqb}
 use lib.ListN.{getD}
 use borrow.Author.Tests.{leb-true, lt-ltb, le-ltb, eqb-true, not-false}
-use Rattle.search.proofs.Search.{every-at}
+use Rattle.ranges.proofs.Search.{every-at}
 use Rattle.sizes.specs.declared.Sizes.{Sizes}
 use Rattle.sizes.specs.Sizes.{within, maxInputs, badOutput, badInputs, badWidths, widthRule, Sound}
 

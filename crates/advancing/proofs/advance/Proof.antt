@@ -9,8 +9,8 @@ use denote.Ref.{now}
 use Rattle.engine.specs.Engine.{outputsDiffer}
 use Rattle.plan.specs.Comparison.{Found}
 use Rattle.plan.proofs.Numbers as plan
-use Rattle.search.specs.Search.{first}
-use Rattle.search.proofs.Search.{first-low}
+use Rattle.ranges.specs.Search.{first}
+use Rattle.ranges.proofs.Search.{first-low}
 use Rattle.sessions.proofs.Cases.{handed, advanced-differs, advanced-equivalent, advanced-spent}
 use Rattle.advancing.proofs.advance.Statement.{statement}
 use Rattle.advancing.proofs.advance.Tie as tie

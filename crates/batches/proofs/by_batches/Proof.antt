@@ -15,8 +15,8 @@ use Rattle.places.specs.Places.{size}
 use Rattle.plan.specs.Comparison.{outputsDiffer}
 use Rattle.plan.specs.declared.Plan.{Plan}
 use Rattle.rows.specs.Rows.{maxLanes}
-use Rattle.search.specs.Search.{first}
-use Rattle.search.proofs.Search.{first-high, first-before, first-end, first-past, first-part}
+use Rattle.ranges.specs.Search.{first}
+use Rattle.ranges.proofs.Search.{first-high, first-before, first-end, first-past, first-part}
 use Rattle.sizes.specs.Sizes.{maxInputs}
 use Rattle.batches.specs.Prepared.{Prepared}
 use Rattle.batches.specs.declared.Shape.{Shape}

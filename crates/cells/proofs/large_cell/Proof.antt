@@ -13,8 +13,8 @@ use lib.Dec.{eqb}
 use lib.ListN.{getD}
 use lib.Pow.{pow-pos}
 use Rattle.file.proofs.Cases.{own-remainder}
-use Rattle.search.specs.Search.{every}
-use Rattle.search.proofs.Search.{every-step, every-not, every-end}
+use Rattle.ranges.specs.Search.{every}
+use Rattle.ranges.proofs.Search.{every-step, every-not, every-end}
 use Rattle.cells.specs.Cells.{smallCell, largeCell}
 use Rattle.cells.proofs.large_cell.Statement.{statement}
 use Rattle.cells.proofs.large_cell.Tie as tie

@@ -6,7 +6,7 @@ use borrow.Author.Tests.{eqb-false}
 use denote.Ref.{now}
 use lib.IntN.{_+ℤ_, _-ℤ_, _*ℤ_}
 use Rattle.file.proofs.Accepted.{Is, is}
-use Rattle.steps.specs.declared.Step.the-variants.{Add, Subtract, Multiply}
+use Rattle.datapath.specs.declared.Step.the-variants.{Add, Subtract, Multiply}
 use Rattle.dependence.proofs.Values.{fixed-input, fixed-constant, fixed-pair, value-sum, value-difference, value-product}
 use Rattle.dependence.proofs.may_depend.Statement.{statement}
 use Rattle.dependence.proofs.may_depend.Tie as tie

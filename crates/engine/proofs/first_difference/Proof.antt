@@ -12,8 +12,8 @@ use Rattle.plan.specs.Plan.{Planned}
 use Rattle.plan.specs.declared.Plan.{Plan}
 use Rattle.plan.proofs.Numbers as plan
 use Rattle.grid.specs.Grid.{gridSize}
-use Rattle.search.specs.Search.{first}
-use Rattle.search.proofs.Search.{first-none}
+use Rattle.ranges.specs.Search.{first}
+use Rattle.ranges.proofs.Search.{first-none}
 use Rattle.walk.specs.Walk.{Within}
 use borrow.Author.Needs.{needs}
 use Rattle.engine.proofs.first_difference.Statement.{statement}

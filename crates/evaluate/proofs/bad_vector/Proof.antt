@@ -8,8 +8,8 @@ use native.Mathlib.Omega.{arith}
 use borrow.Author.Needs.{needs}
 use borrow.Author.Tests.{eq-eqb, ne-eqb, not-true, not-false}
 use lib.ListN.{length}
-use Rattle.search.specs.Search.{every}
-use Rattle.search.proofs.Search.{every-step, every-not, every-end}
+use Rattle.ranges.specs.Search.{every}
+use Rattle.ranges.proofs.Search.{every-step, every-not, every-end}
 use Rattle.evaluate.specs.Evaluate.{inRange, badVector}
 use Rattle.evaluate.proofs.bad_vector.Statement.{statement}
 use Rattle.evaluate.proofs.bad_vector.Tie as tie

@@ -7,8 +7,8 @@ use denote.Ref.{now}
 use lib.ListN.{getD, drop, length-map}
 use lib.Seq.{drop-at}
 use Rattle.fields.specs.Steps.{stepsOf}
-use Rattle.steps.specs.Steps.{values}
-use Rattle.steps.proofs.Values.{length-values}
+use Rattle.datapath.specs.Steps.{values}
+use Rattle.datapath.proofs.Values.{length-values}
 use Rattle.words.specs.Words.{word}
 use Rattle.evaluate.proofs.Words.{output-word}
 use borrow.Author.Needs.{needs}

@@ -11,9 +11,9 @@ use lib.Seq.{take-at, drop-drop}
 use Rattle.fields.specs.Steps.{stepAt, stepsOf}
 use Rattle.fields.proofs.Steps.{steps-at}
 use Rattle.lists.proofs.Lists.{map-append, set-front}
-use Rattle.steps.specs.Steps.{stepValue, values}
-use Rattle.steps.specs.declared.Step.the-variants.{Constant}
-use Rattle.steps.proofs.Values.{length-values, values-more}
+use Rattle.datapath.specs.Steps.{stepValue, values}
+use Rattle.datapath.specs.declared.Step.the-variants.{Constant}
+use Rattle.datapath.proofs.Values.{length-values, values-more}
 use Rattle.words.specs.Words.{word}
 use Rattle.evaluate.specs.Run.{Ready, Running}
 use Rattle.evaluate.proofs.run.Statement.{statement}

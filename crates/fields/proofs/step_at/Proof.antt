@@ -2,8 +2,8 @@
 use mathlib.Core.Path.{_≡_, sym, _∙_, ap, ap₂}
 use Prim.Native.Nat.{ℕ}
 use borrow.Author.Needs.{needs}
-use Rattle.steps.specs.declared.Step.{Step}
-use Rattle.steps.specs.declared.Step.the-variants.{Input, Constant, Add, Subtract, Multiply}
+use Rattle.datapath.specs.declared.Step.{Step}
+use Rattle.datapath.specs.declared.Step.the-variants.{Input, Constant, Add, Subtract, Multiply}
 use Rattle.fields.specs.File.{leftOperand, rightOperand}
 use Rattle.fields.proofs.Steps.{step-input, step-constant, step-add, step-subtract, step-otherwise}
 use Rattle.fields.proofs.step_at.Statement.{statement}

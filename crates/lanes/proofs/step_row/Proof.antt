@@ -17,8 +17,8 @@ use Rattle.integers.specs.Modulo.{remainder}
 use Rattle.integers.proofs.Remainder.{remainder-pos}
 use Rattle.rows.specs.Rows.{lane, Operands}
 use Rattle.rows.proofs.Writing.{before-row}
-use Rattle.steps.specs.declared.Step.{Step}
-use Rattle.steps.specs.declared.Step.the-variants.{Input, Constant, Add, Subtract, Multiply}
+use Rattle.datapath.specs.declared.Step.{Step}
+use Rattle.datapath.specs.declared.Step.the-variants.{Input, Constant, Add, Subtract, Multiply}
 use Rattle.lanes.specs.Lanes.{StandsFor, Held, HeldTo, Room}
 use Rattle.lanes.proofs.Residues.{residue-sum, residue-difference}
 use Rattle.lanes.proofs.Stepped.{width-most}

@@ -10,8 +10,8 @@ use borrow.Author.Needs.{needs}
 use borrow.Author.Tests.{eq-eqb, ne-eqb}
 use lib.Dec.{eqb}
 use lib.ListN.{getD}
-use Rattle.search.specs.Search.{every}
-use Rattle.search.proofs.Search.{every-step, every-not, every-end}
+use Rattle.ranges.specs.Search.{every}
+use Rattle.ranges.proofs.Search.{every-step, every-not, every-end}
 use Rattle.sizes.specs.Sizes.{maxInputs}
 use Rattle.sessions.specs.Session.{sameSizes}
 use Rattle.opening.proofs.same_sizes.Statement.{statement}

@@ -8,8 +8,8 @@ use native.Mathlib.Omega.{arith}
 use borrow.Author.Needs.{needs}
 use borrow.Author.Tests.{eq-eqb, ne-eqb}
 use Rattle.rows.specs.Rows.{lane}
-use Rattle.search.specs.Search.{first}
-use Rattle.search.proofs.Search.{first-start, first-step, first-here, first-end}
+use Rattle.ranges.specs.Search.{first}
+use Rattle.ranges.proofs.Search.{first-start, first-step, first-here, first-end}
 use Rattle.row_lanes.specs.Lanes.{unequal}
 use Rattle.row_lanes.proofs.first_unequal.Statement.{statement}
 use Rattle.row_lanes.proofs.first_unequal.Tie as tie

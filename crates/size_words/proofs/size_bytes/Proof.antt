@@ -5,8 +5,8 @@ use Prim.Native.Nat.{_≤_, _-_}
 use native.Mathlib.Omega.{arith}
 use borrow.Author.Needs.{needs}
 use borrow.Author.Tests.{lt-ltb, le-ltb}
-use Rattle.search.specs.Search.{every}
-use Rattle.search.proofs.Search.{every-start, every-step, every-not, every-end}
+use Rattle.ranges.specs.Search.{every}
+use Rattle.ranges.proofs.Search.{every-start, every-step, every-not, every-end}
 use Rattle.layouts.specs.Lengths.{sizesLength}
 use Rattle.layouts.specs.SizeWords.{fitsByte, sizeBytes}
 use Rattle.size_words.proofs.size_bytes.Statement.{statement}

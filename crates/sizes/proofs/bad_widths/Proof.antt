@@ -6,8 +6,8 @@ use Prim.Native.Nat.{_≤_, _-_}
 use native.Mathlib.Omega.{arith}
 use borrow.Author.Needs.{needs}
 use borrow.Author.Tests.{not-true, not-false}
-use Rattle.search.specs.Search.{every}
-use Rattle.search.proofs.Search.{every-start, every-step, every-not, every-end}
+use Rattle.ranges.specs.Search.{every}
+use Rattle.ranges.proofs.Search.{every-start, every-step, every-not, every-end}
 use Rattle.sizes.specs.Sizes.{maxInputs, badWidths, widthRule}
 use Rattle.sizes.proofs.bad_widths.Statement.{statement}
 use Rattle.sizes.proofs.bad_widths.Tie as tie

@@ -27,8 +27,8 @@ use Rattle.plan.proofs.Numbers as plan
 use Rattle.places.specs.Places.{size, vectorAt}
 use Rattle.rows.specs.Rows.{maxLanes, lane}
 use Rattle.sizes.specs.Sizes.{maxInputs}
-use Rattle.blocks.specs.Block.{lastAxis, Front}
-use Rattle.blocks.proofs.Lines.{axis-at}
+use Rattle.grid_lines.specs.Block.{lastAxis, Front}
+use Rattle.grid_lines.proofs.Lines.{axis-at}
 use Rattle.spans.proofs.GridLines.{size-lines, axis-pos, front-below, front-end, line-front, line-last}
 use Rattle.spans.proofs.agreed_lines.Statement.{statement}
 use Rattle.spans.proofs.agreed_lines.Tie as tie

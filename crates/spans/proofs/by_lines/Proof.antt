@@ -9,11 +9,11 @@ use native.Mathlib.Nat.{div-mul-le-self, le-refl, le-trans, mul-le-mul-right}
 use native.Mathlib.Omega.{arith}
 use borrow.Author.Needs.{needs}
 use Rattle.batches.proofs.Tests.{prepared-kept}
-use Rattle.blocks.specs.Block.{lastAxis}
+use Rattle.grid_lines.specs.Block.{lastAxis}
 use Rattle.lanes.proofs.Stepped.{width-least}
 use Rattle.plan.proofs.Numbers as plan
-use Rattle.search.specs.Search.{first}
-use Rattle.search.proofs.Search.{first-before, NoneBelow, first-past, first-part}
+use Rattle.ranges.specs.Search.{first}
+use Rattle.ranges.proofs.Search.{first-before, NoneBelow, first-past, first-part}
 use Rattle.spans.proofs.GridLines.{axis-pos}
 use Rattle.spans.proofs.by_lines.Statement.{statement}
 use Rattle.spans.proofs.by_lines.Tie as tie

@@ -18,8 +18,8 @@ use Rattle.places.specs.Places.{size, vectorAt}
 use Rattle.plan.specs.Comparison.{outputsDiffer}
 use Rattle.plan.specs.declared.Plan.{Plan}
 use Rattle.plan.proofs.Numbers as plan
-use Rattle.search.specs.Search.{first}
-use Rattle.search.proofs.Search.{first-here, first-step, first-end}
+use Rattle.ranges.specs.Search.{first}
+use Rattle.ranges.proofs.Search.{first-here, first-step, first-end}
 use Rattle.sizes.specs.Sizes.{maxInputs}
 use Rattle.spans.specs.declared.Span.{Span}
 use Rattle.vectors.specs.Vectors.{held, Placed}

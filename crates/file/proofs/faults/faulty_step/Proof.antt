@@ -5,8 +5,8 @@ use Prim.Native.Nat.{_≤_, _-_}
 use native.Mathlib.Omega.{arith}
 use borrow.Author.Needs.{needs}
 use denote.Ref.{now}
-use Rattle.search.specs.Search.{first}
-use Rattle.search.proofs.Search.{first-start, first-here, first-step, first-end}
+use Rattle.ranges.specs.Search.{first}
+use Rattle.ranges.proofs.Search.{first-start, first-here, first-step, first-end}
 use Rattle.file.proofs.Cases.{faulty, faultless}
 use Rattle.file.specs.Check.{stepFault, faultyAt, faultyStep}
 use Rattle.file.proofs.faults.faulty_step.Statement.{statement}

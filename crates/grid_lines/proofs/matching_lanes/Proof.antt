@@ -1,0 +1,170 @@
+-- `grid_lines::matching_lanes` meets its contract. The loop's invariant: the rows hold the values at t - 1, and in the matching lanes the saved rows show
+-- the outputs below t.
+-- Assumes nothing.
+use mathlib.Core.List.{List}
+use mathlib.Core.Path.{_∙_}
+use Prim.Native.Nat.{ℕ, _-_, _≤_}
+use native.Mathlib.Omega.{arith}
+use borrow.Author.Needs.{needs}
+use Rattle.batches.proofs.OnGrid.{axis-within}
+use Rattle.rows.proofs.Writing.{before-row}
+use Rattle.grid_lines.specs.declared.Along.{Along}
+use Rattle.grid_lines.proofs.Lines.{Walked, SavedTo, walk-none, walk-grid, walk-more, match-more}
+use Rattle.grid_lines.proofs.matching_lanes.Statement.{statement}
+use Rattle.grid_lines.proofs.matching_lanes.Tie as tie
+
+record Matched (a : Along) (s inputs₀ before rows inputs saved : List ℕ) (r t : ℕ) : Type 0 where
+  walked : Walked a s inputs₀ before rows inputs t
+  within : t ≤ a .u
+  few : r ≤ a .w
+  shown : SavedTo a s inputs₀ saved r t
+
+abbrev Inv-loop : tie.InvT-loop
+Inv-loop file along rows₀ list inputs₀ saved m n d u w agreeing₀ t₀ rows inputs agreeing t = Matched along file inputs₀ rows₀ rows inputs saved agreeing t
+
+abbrev μ-loop : tie.MeasureT-loop
+μ-loop file along rows₀ list inputs₀ saved m n d u w agreeing₀ t₀ rows inputs agreeing t = along .u - t
+
+-- the places: the entry, the loop's head, and the calls of a round
+abbrev entry : tie.At-loop Inv-loop μ-loop → tie.Start Inv-loop μ-loop
+entry c = c .before .before .before .before .before .before .before
+
+abbrev head : tie.After-fill-row Inv-loop μ-loop → tie.At-loop Inv-loop μ-loop
+head c = c .before .before .before
+
+abbrev filled : tie.After-refresh Inv-loop μ-loop → tie.After-fill-row Inv-loop μ-loop
+filled c = c .before .before .before .before .before
+
+abbrev run : tie.After-first-unequal Inv-loop μ-loop → tie.After-refresh Inv-loop μ-loop
+run c = c .before .before .before .before
+
+output-length-requires : tie.Need-output-length-requires Inv-loop μ-loop
+output-length-requires c κs = c .before .before .before .before .before .pre .0 .sound .long
+
+loop-holds : tie.Need-loop-holds Inv-loop μ-loop
+loop-holds c =
+    let q = c .before .before .before .before .before .before .pre in
+    record {
+      walked = walk-none _ _ _ _ (q .1 .0 .onGrid);
+      within = omega arith;
+      few = omega arith;
+      shown = λ l x g f h. absurd (omega arith);
+    }
+
+sub-fill-row : tie.Need-sub-fill-row Inv-loop μ-loop
+sub-fill-row c =
+    let q = entry (c .before .before) .pre in
+    omega (arith, q .1 .0 .inputCount, q .0 .sound .inputsLow)
+
+fill-row-requires : tie.Need-fill-row-requires Inv-loop μ-loop
+fill-row-requires c κs =
+    let q = entry (c .before .before) .pre in
+    let a = entry (c .before .before) .args .along in
+    omega (arith, c .before .before .loop .inv .walked .long, q .1 .0 .room, before-row (a .w) (a .d - 1) (a .d) (omega (arith, q .1 .0 .inputCount, q .0 .sound .inputsLow)))
+
+refresh-requires : tie.Need-refresh-requires Inv-loop μ-loop
+refresh-requires c κs =
+    let f = c .before .before .before .before in
+    let q = entry (head f) .pre in
+    let inv = head f .loop .inv .walked in (
+      record {
+        width = q .0 .width;
+        sound = q .0 .sound;
+        count = q .0 .count;
+        inputRows = omega (arith, q .0 .inputRows, inv .long, f .fill-row .kept .0);
+        stepRows = omega (arith, q .0 .stepRows, inv .longRows);
+      },
+      (q .1 .0 .listed, walk-grid (q .1 .0) (q .0 .sound) inv (f .before .before .loop-test .taken) (f .fill-row .ensures)),
+    )
+
+sub-first-unequal : tie.Need-sub-first-unequal Inv-loop μ-loop
+sub-first-unequal c =
+    let q = entry (head (filled (c .before .before .before))) .pre in
+    omega (arith, q .0 .count, q .0 .sound .countLow)
+
+first-unequal-requires : tie.Need-first-unequal-requires Inv-loop μ-loop
+first-unequal-requires c κs =
+    let r = c .before .before .before in
+    let f = filled r in
+    let q = entry (head f) .pre in
+    let a = entry (head f) .args .along in
+    let inv = head f .loop .inv in (
+      omega (arith, before-row (a .w) (head f .loop .at) (a .u) (f .before .before .loop-test .taken), q .1 .1),
+      omega (arith, before-row (a .w) (a .n - 1) (a .n) (omega (arith, q .0 .count, q .0 .sound .countLow)), q .0 .stepRows, inv .walked .longRows, r .refresh .kept .1 .1 .1 .0),
+      inv .few,
+    )
+
+same-length : tie.Need-same-length Inv-loop μ-loop
+same-length c =
+    let r = run (c .before) in
+    r .refresh .kept .1 .1 .1 .0 ∙ head (filled r) .loop .inv .walked .longRows
+
+same-length-2 : tie.Need-same-length-2 Inv-loop μ-loop
+same-length-2 c =
+    let f = filled (run (c .before)) in
+    f .fill-row .kept .0 ∙ head f .loop .inv .walked .long
+
+returns : tie.Need-returns Inv-loop μ-loop
+returns c = record { few = omega arith; shown = λ l x h. absurd (omega arith) }
+
+add-at : tie.Need-add-at Inv-loop μ-loop
+add-at c =
+    let f = filled (run (c .before)) in
+    let q = entry (head f) .pre in
+    omega (arith, f .before .before .loop-test .taken, q .1 .0 .axis, axis-within _ (q .0 .sound) (entry (head f) .args .along .d - 1))
+
+loop-less : tie.Need-loop-less Inv-loop μ-loop
+loop-less c = omega (arith, filled (run (c .before)) .before .before .loop-test .taken)
+
+loop-again : tie.Need-loop-again Inv-loop μ-loop
+loop-again c =
+    let r = run (c .before) in
+    let f = filled r in
+    let q = entry (head f) .pre in
+    let inv = head f .loop .inv in
+    let below = f .before .before .loop-test .taken in
+    let next =
+    match-more (q .1 .0) (q .0 .sound) (inv .walked) below (f .fill-row .ensures) (r .refresh .last .1 .1 .1 .0) (r .refresh .ensures) _ _ _ _ (q .0 .count) (head f .before .output-length .ensures) (inv .few)
+    (inv .shown) (c .before .first-unequal .ensures) in
+    record {
+      walked =
+          walk-more (q .1 .0) (q .0 .sound) (inv .walked) below (f .fill-row .ensures) (r .refresh .last .1 .1 .1 .0) (r .refresh .ensures) (f .fill-row .kept .0)
+          (r .refresh .kept .1 .1 .1 .0);
+      within = omega (arith, below);
+      few = omega (arith, next .0, inv .few);
+      shown = next .1;
+    }
+
+same-length-3 : tie.Need-same-length-3 Inv-loop μ-loop
+same-length-3 c = c .before .loop .inv .walked .longRows
+
+same-length-4 : tie.Need-same-length-4 Inv-loop μ-loop
+same-length-4 c = c .before .loop .inv .walked .long
+
+returns-2 : tie.Need-returns-2 Inv-loop μ-loop
+returns-2 c =
+    let inv = c .before .loop .inv in
+    record { few = inv .few; shown = λ l x g f h. inv .shown l x g f (omega (arith, h, c .loop-test .left)) }
+
+pub matching-lanes-spec : {M : Type 1} → statement M
+matching-lanes-spec =
+    tie.close
+    (tie.spec
+    Inv-loop
+    μ-loop
+    output-length-requires
+    loop-holds
+    sub-fill-row
+    fill-row-requires
+    refresh-requires
+    sub-first-unequal
+    first-unequal-requires
+    same-length
+    same-length-2
+    returns
+    add-at
+    loop-less
+    loop-again
+    same-length-3
+    same-length-4
+    returns-2)

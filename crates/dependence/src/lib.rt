@@ -1,6 +1,6 @@
 // Which steps of an accepted file depend on one input.
-use fields::step_at;
 use datapath::Step;
+use fields::step_at;
 ghost use Prim.Native.Nat.{_≤_, _<_};
 ghost use lib.ListN.{length};
 ghost use Rattle.file.specs.Accepted.{Counted};

@@ -1,4 +1,5 @@
 // Evaluating a datapath file at a vector.
+use datapath::Step;
 use fields::output_length;
 use fields::read_sizes;
 use fields::step_at;
@@ -8,7 +9,6 @@ use sizes::Refusal;
 use sizes::Sizes;
 use sizes::refused_by;
 use slices::clear;
-use datapath::Step;
 use words::cut;
 use words::wrapping_mul;
 ghost use mathlib.Core.Path.{_≡_};

@@ -1,7 +1,7 @@
 // The fields of a datapath file, read from its bytes, and its steps.
+use datapath::Step;
 use sizes::INPUTS;
 use sizes::Sizes;
-use datapath::Step;
 use words::le16;
 use words::le64;
 ghost use mathlib.Core.Path.{_≡_};

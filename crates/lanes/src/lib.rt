@@ -1,5 +1,6 @@
 // The steps of an accepted file run at several vectors at once, a lane of the rows for each: all steps, or those alone that depend on one input.
 // The loops over the steps are called with the constants LANES and FEW_LANES, so that they are compiled for each.
+use datapath::Step;
 use fields::output_length;
 use fields::step_at;
 use row_products::multiply_low_rows;
@@ -9,7 +10,6 @@ use row_sums::subtract_rows;
 use rows::LANES;
 use rows::copy_row;
 use rows::fill_row;
-use datapath::Step;
 ghost use Prim.Native.Nat.{_≤_, _<_};
 ghost use Rattle.dependence.specs.Dependence.{Listed};
 ghost use Rattle.rows.specs.Rows.{Operands};

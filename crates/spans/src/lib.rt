@@ -3,9 +3,9 @@
 use batches::Shape;
 use batches::by_batches;
 use batches::set_lanes;
+use dependence::list_dependent;
 use grid_lines::Counts;
 use grid_lines::agreeing_lanes;
-use dependence::list_dependent;
 use plan::Plan;
 use rows::LANES;
 use sizes::INPUTS;

@@ -1,18 +1,19 @@
 // The vectors of a grid, as the machine holds them: the one at a place, and the one after another.
+use sizes::INPUTS;
 ghost use mathlib.Core.Path.{_≡_};
-ghost use Prim.Native.Nat.{ℕ, _+_, _≤_, _<_};
+ghost use Prim.Native.Nat.{_≤_, _<_};
 ghost use lib.ListN.{take};
 ghost use Rattle.places.specs.Places.{size, vectorAt};
 ghost use Rattle.sizes.specs.Sizes.{maxInputs};
-ghost use Rattle.vectors.specs.Vectors.{held, Placed};
+ghost use Rattle.vectors.specs.Vectors.{held, Placed, Next};
 
 // The vector at place p of the grid with the first d of the axes: the digits of p, the last input varying fastest.
-pub fn vector_at(axes: [u64; 8], d: usize, p: u64) -> [u64; 8]
+pub fn vector_at(axes: [u64; INPUTS], d: usize, p: u64) -> [u64; INPUTS]
     requires { ⌜ d ≤ maxInputs ⌝ }
     requires { ⌜ p < size (take d axes) ⌝ }
     ensures { λ r. ⌜ r ≡ held (vectorAt (take d axes) p) ⌝ }
 {
-    let mut v = [0u64; 8];
+    let mut v = [0u64; INPUTS];
     let mut rest = p;
     let mut i = d;
     while 0 < i {
@@ -26,10 +27,10 @@ pub fn vector_at(axes: [u64; 8], d: usize, p: u64) -> [u64; 8]
 
 // The vector one place after v, one of the grid's vectors: from the last input backwards, an input at its last value goes to 0, and the
 // first that isn't goes up by 1. Where v is the last vector of all, nothing is promised of the answer.
-pub fn next_vector(axes: [u64; 8], d: usize, v: [u64; 8]) -> [u64; 8]
+pub fn next_vector(axes: [u64; INPUTS], d: usize, v: [u64; INPUTS]) -> [u64; INPUTS]
     requires { ⌜ d ≤ maxInputs ⌝ }
     requires { ⌜ Placed (take d axes) v ⌝ }
-    ensures { λ r. ⌜ ((p : ℕ) → p + 1 < size (take d axes) → v ≡ held (vectorAt (take d axes) p) → r ≡ held (vectorAt (take d axes) (p + 1))) ⌝ }
+    ensures { λ r. ⌜ Next (take d axes) v r ⌝ }
 {
     let mut next = v;
     let mut i = d;

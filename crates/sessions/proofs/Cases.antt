@@ -114,14 +114,13 @@ module _ (s₁ s₂ : List ℕ) (z : Session) (B len : ℕ) where
       files :
           (b : Bool) → isRefusal (cond b (refusedBy 11) (pairRefusal s₁ s₂)) ≡ true →
           cond b (refusedBy 11)
-          (cond (isRefusal (pairRefusal s₁ s₂)) (pairRefusal s₁ s₂)
-          (cond (shortScratch (largerCount s₁ s₂) len) (refusedBy 12) (stateRefusal (sizesOf s₁) (gridSize (sizesOf s₁)) z)))
+          (cond (isRefusal (pairRefusal s₁ s₂)) (pairRefusal s₁ s₂) (roomRefusal s₁ s₂ z len))
           ≡ cond b (refusedBy 11) (pairRefusal s₁ s₂)
       files true e = refl
       files false e = rw e
 
   pub refused-by-room : isRefusal (filesRefusal s₁ s₂ B) ≡ false → continueRefusal s₁ s₂ z B len ≡ roomRefusal s₁ s₂ z len
-  unfolding continueRefusal filesRefusal roomRefusal
+  unfolding continueRefusal filesRefusal
   refused-by-room r =
       let p₁ = cond-passed (eqb B 0) (refusedBy 11) (pairRefusal s₁ s₂) (λ _. refl) r in
       rw (p₁ .0, p₁ .1)

@@ -86,7 +86,7 @@ stateRefusal w G z =
 unfoldable pub filesRefusal : List ℕ → List ℕ → ℕ → Refusal
 filesRefusal s₁ s₂ B = cond (eqb B 0) (refusedBy 11) (pairRefusal s₁ s₂)
 
-unfoldable pub roomRefusal : List ℕ → List ℕ → Session → ℕ → Refusal
+abbrev pub roomRefusal : List ℕ → List ℕ → Session → ℕ → Refusal
 roomRefusal s₁ s₂ z len =
     cond (shortScratch (largerCount s₁ s₂) len) (refusedBy 12)
     (stateRefusal (sizesOf s₁) (gridSize (sizesOf s₁)) z)
@@ -95,8 +95,7 @@ unfoldable pub continueRefusal : List ℕ → List ℕ → Session → ℕ → �
 continueRefusal s₁ s₂ z B len =
     cond (eqb B 0) (refusedBy 11)
     (cond (isRefusal (pairRefusal s₁ s₂)) (pairRefusal s₁ s₂)
-    (cond (shortScratch (largerCount s₁ s₂) len) (refusedBy 12)
-    (stateRefusal (sizesOf s₁) (gridSize (sizesOf s₁)) z)))
+    (roomRefusal s₁ s₂ z len))
 
 unfoldable pub refusedAnswer : Refusal → Answer
 refusedAnswer r =

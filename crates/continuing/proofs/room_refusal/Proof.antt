@@ -8,7 +8,7 @@ use borrow.Author.Tests.{lt-ltb, le-ltb}
 use denote.Ref.{now}
 use Rattle.engine.specs.Engine.{largerCount}
 use Rattle.plan.proofs.Numbers as plan
-use Rattle.sessions.specs.Session.{stateRefusal, roomRefusal}
+use Rattle.sessions.specs.Session.{stateRefusal}
 use Rattle.continuing.proofs.room_refusal.Statement.{statement}
 use Rattle.continuing.proofs.room_refusal.Tie as tie
 
@@ -19,7 +19,6 @@ refused-by-requires : tie.Need-refused-by-requires
 refused-by-requires c κs = search needs
 
 returns : tie.Need-returns
-unfolding roomRefusal
 returns c =
     let a = c .before .before .before .before .before .args in
     let k = c .before .before .before .before .before .pre in
@@ -33,7 +32,6 @@ state-refusal-requires : tie.Need-state-refusal-requires
 state-refusal-requires c κs = search needs
 
 returns-2 : tie.Need-returns-2
-unfolding roomRefusal
 returns-2 c =
     let a = c .before .before .before .before .before .before .args in
     let k = c .before .before .before .before .before .before .pre in

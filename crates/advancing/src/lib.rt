@@ -15,7 +15,7 @@ ghost use Prim.Native.Nat.{_≤_, _<_, min, max};
 ghost use lib.ListN.{length};
 ghost use Rattle.plan.specs.Plan.{Planned};
 ghost use Rattle.sessions.specs.Session.{plainAnswer, movedTo};
-ghost use Rattle.advancing.specs.Advancing.{Shown, Advanced};
+ghost use Rattle.advancing.specs.Advancing.{DifferenceShown, Advanced};
 
 // The smaller of two counts.
 fn smaller(a: u64, b: u64) -> u64
@@ -38,8 +38,8 @@ fn plain_answer(kind: Kind, run: u64) -> Answer
     }
 }
 
-// The answer that shows the vector at a place of the grid with both outputs, after `run` vectors. Past the larger N no scratch entry is
-// touched.
+// The answer that shows the vector at a place of the grid with both outputs, after `run` vectors. Past the larger N
+// no scratch entry is touched.
 fn differs_answer(
     file1: &[u8],
     file2: &[u8],
@@ -51,7 +51,8 @@ fn differs_answer(
     requires { ⌜ Planned (now file1) (now file2) plan ⌝ }
     requires { ⌜ (place < plan .size) × (max (plan .n1) (plan .n2) ≤ length (now scratch)) ⌝ }
     ensures { λ r. ⌜
-        Shown (now (file1 .entry)) (now (file2 .entry)) plan place run (now (scratch .entry)) r (now (scratch .exit))
+        DifferenceShown (now (file1 .entry)) (now (file2 .entry)) plan place run (now (scratch .entry)) r
+        (now (scratch .exit))
         ⌝ }
 {
     let axes = plan.axes;
@@ -80,7 +81,8 @@ fn moved(session: Session, position: u64, mark: Mark) -> Session
     }
 }
 
-// An accepted call: runs up to `budget` vectors from the session's position on. Past the larger N no scratch entry is touched.
+// An accepted call: runs up to `budget` vectors from the session's position on. Past the larger N no scratch entry is
+// touched.
 pub fn advance(
     file1: &[u8],
     file2: &[u8],

@@ -9,37 +9,29 @@ use native.Mathlib.Omega.{arith}
 use lib.ListN.{getD, take, replicate}
 use Rattle.file.specs.Accepted.{Accepted}
 use Rattle.fields.specs.File.{sizesOf}
-use Rattle.grid.specs.Grid.{widthsOf, axesOf, gridSize}
-use Rattle.grid.proofs.Axes.{axes-most}
-use Rattle.lanes.specs.Lanes.{OnGrid, LanesOnGrid}
+use Rattle.grid.specs.Grid.{axesOf, gridSize}
+use Rattle.lanes.specs.Lanes.{VectorOnGrid, LanesOnGrid}
 use Rattle.places.specs.Places.{size, vectorAt}
 use Rattle.places.proofs.Places.{oneToOne}
 use Rattle.plan.specs.Plan.{Planned}
 use Rattle.plan.specs.declared.Plan.{Plan}
-use Rattle.plan.proofs.Axes.{length-axes, grid-some}
+use Rattle.plan.proofs.Axes.{length-axes, file-grid-least}
 use Rattle.plan.proofs.Numbers.{grid}
-use Rattle.sizes.specs.declared.Sizes.{Sizes}
 use Rattle.vectors.proofs.Digits.{below-at}
 use Rattle.batches.specs.Batch.{LanesSet}
-use Rattle.batches.specs.Prepared.{maxAxis}
 
 -- the vector at a place
-pub place-on-grid : (s : List ℕ) → Accepted s → (p : ℕ) → p < size (axesOf (sizesOf s)) → OnGrid s (vectorAt (axesOf (sizesOf s)) p)
+pub place-on-grid : (s : List ℕ) → Accepted s → (p : ℕ) → p < size (axesOf (sizesOf s)) → VectorOnGrid s (vectorAt (axesOf (sizesOf s)) p)
 place-on-grid s a p h i g =
     below-at (axesOf (sizesOf s)) (vectorAt (axesOf (sizesOf s)) p) i (oneToOne (axesOf (sizesOf s)) .below p h) (omega (arith, length-axes s a))
 
 grid-first : (s : List ℕ) → Accepted s → 0 < size (axesOf (sizesOf s))
 unfolding gridSize
-grid-first s a = grid-some s a
+grid-first s a = file-grid-least s a
 
 -- each axis is at least 1
-pub axis-some : (s : List ℕ) → Accepted s → (i : ℕ) → i < sizesOf s .d → 0 < getD (axesOf (sizesOf s)) i 0
-axis-some s a i g = omega (arith, place-on-grid s a 0 (grid-first s a) i g)
-
--- and at most the largest
-pub axis-within : (s : List ℕ) → Accepted s → (i : ℕ) → getD (axesOf (sizesOf s)) i 0 ≤ maxAxis
-unfolding axesOf
-axis-within s a i = axes-most (sizesOf s .m) (a .outputLow) (a .outputHigh) (widthsOf (sizesOf s)) i
+pub file-axis-least : (s : List ℕ) → Accepted s → (i : ℕ) → i < sizesOf s .d → 0 < getD (axesOf (sizesOf s)) i 0
+file-axis-least s a i g = omega (arith, place-on-grid s a 0 (grid-first s a) i g)
 
 zero-entry : (n i : ℕ) → _≡_ {A = ℕ} (getD (replicate n 0) i 0) 0
 zero-entry zero i = refl
@@ -47,7 +39,7 @@ zero-entry (suc n) zero = refl
 zero-entry (suc n) (suc i) = zero-entry n i
 
 pub zeros-on-grid : (s : List ℕ) → Accepted s → (w n : ℕ) → LanesOnGrid w s (replicate n 0)
-zeros-on-grid s a w n i l h t = rw (zero-entry n) (axis-some s a i h)
+zeros-on-grid s a w n i l h t = rw (zero-entry n) (file-axis-least s a i h)
 
 -- of two comparable files
 pub same-grid : (w : ℕ) (s₁ s₂ inputs : List ℕ) → sizesOf s₁ ≡ sizesOf s₂ → LanesOnGrid w s₁ inputs → LanesOnGrid w s₂ inputs

@@ -7,13 +7,14 @@ use mathlib.Core.Path.{_≡_}
 use mathlib.Core.List.{List}
 use Prim.Native.Nat.{ℕ, _*_, _≤_}
 use lib.ListN.{length}
+use Rattle.bound.specs.Bound.{maxBound}
 use Rattle.lanes.specs.Lanes.{Width}
 use Rattle.plan.specs.Plan.{Planned}
 use Rattle.plan.specs.declared.Plan.{Plan}
 use Rattle.batches.specs.declared.Shape.{Shape}
 
 abbrev pub maxAxis : ℕ
-maxAxis = 66
+maxAxis = maxBound
 
 pub record Prepared (v : Shape) (s₁ s₂ : List ℕ) (p : Plan) (rows other : List ℕ) : Type 0 where
   pub width : Width (v .w)

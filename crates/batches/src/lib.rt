@@ -20,14 +20,15 @@ ghost use Rattle.batches.specs.Prepared.{Prepared};
 // The largest value of an axis.
 pub const AXIS: usize = 66;
 
-// How two files are run in lanes: the lanes of a row, and whether the files are run in turn in the same rows or have rows of their own each.
+// How two files are run in lanes: the lanes of a row, and whether the files are run in turn in the same rows or have
+// rows of their own each.
 pub struct Shape {
     pub w: usize,
     pub turn: bool,
 }
 
-// The first `live` lanes of the input rows become the vectors from place p on, of the grid with the first d of the axes. The other lanes stay as they
-// were.
+// The first `live` lanes of the input rows become the vectors from place p on, of the grid with the first d of the
+// axes. The other lanes stay as they were.
 pub fn set_lanes(inputs: &mut [u64], axes: [u64; INPUTS], d: usize, p: u64, live: usize, w: usize)
     requires { ⌜ d ≤ maxInputs ⌝ }
     requires { ⌜ Live w (take d axes) p live (now inputs) ⌝ }
@@ -44,8 +45,9 @@ pub fn set_lanes(inputs: &mut [u64], axes: [u64; INPUTS], d: usize, p: u64, live
     }
 }
 
-// The first of `live` lanes in which the outputs differ at the places from p on, or `live` where there is none. The steps run in all lanes: those past
-// the live ones hold a vector of the grid too, before and after. In turn, the output row of file 1 is saved before file 2 is run in the same rows.
+// The first of `live` lanes in which the outputs differ at the places from p on, or `live` where there is none. The
+// steps run in all lanes: those past the live ones hold a vector of the grid too, before and after. In turn, the
+// output row of file 1 is saved before file 2 is run in the same rows.
 fn first_in_batch(
     file1: &[u8],
     file2: &[u8],

@@ -12,7 +12,7 @@ use Rattle.integers.specs.Modulo.{factorial}
 use Rattle.integers.proofs.Divisibility.{factorial-mod}
 use Rattle.ranges.specs.Search.{every}
 use Rattle.ranges.proofs.Search.{every-at}
-use Rattle.bound.specs.Bound.{bounds, bound, LeastBound}
+use Rattle.bound.specs.Bound.{bounds, bound, maxBound, LeastBound}
 
 -- 2^(k + 1) divides L! and not (L − 1)!, where L is entry k
 right : ℕ → Bool
@@ -23,15 +23,15 @@ all-right : every right 0 64 ≡ true
 unfolding every right bounds factorial
 all-right = refl
 
--- entry k is from 1 to 66
+-- entry k is from 1 to the largest bound
 between : ℕ → Bool
-between k = leb 1 (getD bounds k 0) && leb (getD bounds k 0) 66
+between k = leb 1 (getD bounds k 0) && leb (getD bounds k 0) maxBound
 
 all-between : every between 0 64 ≡ true
 unfolding every between bounds
 all-between = refl
 
-bound-between : (m : ℕ) → 1 ≤ m → m ≤ 64 → (leb 1 (bound m) ≡ true) × (leb (bound m) 66 ≡ true)
+bound-between : (m : ℕ) → 1 ≤ m → m ≤ 64 → (leb 1 (bound m) ≡ true) × (leb (bound m) maxBound ≡ true)
 unfolding bound between
 bound-between m low high =
     and-eq-true-iff _ _ .0 (every-at between 0 64 (m - 1) all-between (omega arith) (omega arith))
@@ -39,7 +39,7 @@ bound-between m low high =
 pub bound-least : (m : ℕ) → 1 ≤ m → m ≤ 64 → 1 ≤ bound m
 bound-least m low high = leb-true _ _ (bound-between m low high .0)
 
-pub bound-most : (m : ℕ) → 1 ≤ m → m ≤ 64 → bound m ≤ 66
+pub bound-most : (m : ℕ) → 1 ≤ m → m ≤ 64 → bound m ≤ maxBound
 bound-most m low high = leb-true _ _ (bound-between m low high .1)
 
 -- the bound of m is entry m − 1

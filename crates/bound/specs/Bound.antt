@@ -2,6 +2,7 @@
 --   IsBound m n   n is the least natural number whose factorial is divisible by 2^m
 --   bounds        L(1) to L(64)
 --   bound m       L(m), for m from 1 to 64
+--   maxBound      the largest of them, L(64)
 --   LeastBound    L(m) is that least number, for every m from 1 to 64. Proved in proofs/Least, by one test over the whole table
 use mathlib.Core.Path.{_≡_}
 use mathlib.Core.List.{List, [], _∷_}
@@ -22,6 +23,9 @@ bounds =
 
 unfoldable pub bound : ℕ → ℕ
 bound m = getD bounds (m - 1) 0
+
+abbrev pub maxBound : ℕ
+maxBound = 66
 
 abbrev pub LeastBound : Type 0
 LeastBound = (m : ℕ) → 1 ≤ m → m ≤ 64 → IsBound m (bound m)

@@ -12,7 +12,7 @@ use lib.Seq.{take-at, getD-at, getD-drop}
 use borrow.Author.Tests.{eq-eqb, ne-eqb, le-leb}
 use Rattle.bound.specs.Bound.{IsBound, bound}
 use Rattle.bound.proofs.Least.{leastBound}
-use Rattle.evaluate.specs.Evaluate.{refusalAt, evaluatedAt, scratchAfter}
+use Rattle.evaluate.specs.Evaluate.{refusalAt, evaluatedAt, evaluatedScratch}
 use Rattle.evaluate.specs.declared.Evaluated.{Evaluated as Answer}
 use Rattle.evaluate.proofs.Answers.{answer-accepted}
 use Rattle.file.specs.Accepted.{Accepted}
@@ -26,7 +26,7 @@ use Rattle.grid_calls.specs.GridCalls.{BoundCall, GridCall, boundWords, gridWor
 use Rattle.grid_calls.proofs.Answered.{grid-refused, grid-accepted, bound-refused, bound-accepted}
 use Rattle.layouts.specs.AnswerWords.{refusalWords, answerWords}
 use Rattle.layouts.specs.Layout.{has, returned, leaves}
-use Rattle.layouts.specs.Lengths.{word}
+use Rattle.layouts.specs.Lengths.{wordAt}
 use Rattle.layouts.specs.SessionWords.{sessionFrom}
 use Rattle.layouts.specs.SizeWords.{sizeWords, sizesFrom}
 use Rattle.layouts.proofs.Sessions.{file-widths, file-bytes}
@@ -34,23 +34,23 @@ use Rattle.layouts.proofs.Sizes.{sizesAsWords}
 use Rattle.ranges.proofs.Search.{true-or-false}
 use Rattle.session_calls.specs.SessionCalls.{continueFits, continuing, ContinueCall}
 use Rattle.sessions.specs.Calls.{answerTo}
-use Rattle.sessions.specs.Session.{isRefusal, continueRefusal}
+use Rattle.sessions.specs.Session.{continueRefusal}
 use Rattle.sessions.proofs.Cases.{scratch-accepted as session-scratch}
 use Rattle.sessions.proofs.Step.{answer-refusal}
-use Rattle.sizes.specs.Sizes.{within, accepted}
+use Rattle.sizes.specs.Sizes.{within, accepted, isRefusal}
 use Rattle.sizes.specs.declared.Refusal.{Refusal}
 use Rattle.sizes.specs.declared.Sizes.{Sizes}
 use Rattle.sizes.proofs.Ranges.{within-range}
 use Rattle.table_calls.specs.TableCalls.{cellsFit, TableCall, DifferenceCall, SumCall}
 use Rattle.cells.specs.Cells.{cellsRefusal}
 use Rattle.cells.proofs.Answers.{passed, at-0, fits}
-use Rattle.demand2.specs.Demand2.{Holds}
+use Rattle.demand2.specs.Demand2.{HoldsCells}
 use Rattle.demand2.proofs.Demand2.{sumOfMade, differenceOfSum, sumOfDifference}
 use Rattle.file_tables.specs.FileTables.{tableRefusal, madeTable, tableScratch}
 use Rattle.file_tables.proofs.Answers.{made, table-0, table-accepted, scratch-accepted}
 use Rattle.tables.specs.Tables.{differenced, summedUp}
-use Rattle.vectors.proofs.Held.{held-entry}
-use Rattle.callers.specs.AcceptedInC.{Checked, Stretched, From1To64, Bounded, Gridded, Evaluated, Tabled, Continued, Written, SumOfTableInC, DifferenceOfSumInC, SumOfDifferenceInC, AcceptedInC}
+use Rattle.vectors.proofs.Padded.{padded-entry}
+use Rattle.callers.specs.AcceptedInC.{Checked, Stretched, From1To64, Bounded, Gridded, Evaluated, Tabled, Continued, CellsWritten, SumOfTableInC, DifferenceOfSumInC, SumOfDifferenceInC, AcceptedInC}
 use Rattle.callers.proofs.Refused.{right-told, right-left}
 use Rattle.callers.proofs.Sound.{number-0}
 
@@ -59,8 +59,8 @@ pub wrote : (b : Bool) (after before slice : List ℕ) → 1 ≡ returned b → 
 wrote b after before slice r e = right-left b after before slice e (right-told 1 b r refl)
 
 -- the first word of a list, and the number of a refusal
-first : {w v : List ℕ} → w ≡ v → word w 0 ≡ word v 0
-first e = ap (λ l. word l 0) e
+first : {w v : List ℕ} → w ≡ v → wordAt w 0 ≡ wordAt v 0
+first e = ap (λ l. wordAt l 0) e
 
 number-of : {r q : Refusal} → r ≡ q → r .number ≡ q .number
 number-of e = ap (λ (r : Refusal). r .number) e
@@ -69,7 +69,7 @@ module _ (f o o′ : List ℕ) (h : CheckCall f o 1 o′) where
   check-said : o′ ≡ refusalWords (refusalOf 1 f)
   check-said = wrote (has 3 o) _ o o′ (h .result) (h .out)
 
-  checked-number : word o′ 0 ≡ fileNumber f
+  checked-number : wordAt o′ 0 ≡ fileNumber f
   checked-number = first check-said ∙ refusal-number f 1
 
   checked : Checked f o′
@@ -95,7 +95,7 @@ module _ (f o o′ : List ℕ) (h : OperationsCall f o 1 o′) where
   stretched =
       record {
         start = λ e. first (stretch-said e);
-        count = λ e. ap (λ l. word l 1) (stretch-said e);
+        count = λ e. ap (λ l. wordAt l 1) (stretch-said e);
         none = no-stretch;
       }
 
@@ -112,7 +112,7 @@ module _ (m : ℕ) (o o′ : List ℕ) (h : BoundCall m o 1 o′) where
   inside : within 1 64 m ≡ true → From1To64 m
   inside e = let p = within-range 1 64 m e in record { low = p .0; high = p .1 }
 
-  in-range : word o′ 0 ≡ 0 → From1To64 m
+  in-range : wordAt o′ 0 ≡ 0 → From1To64 m
   in-range z =
       elim (true-or-false (within 1 64 m)) [
         | inl e ↦ inside e
@@ -131,7 +131,7 @@ module _ (m : ℕ) (o o′ : List ℕ) (h : BoundCall m o 1 o′) where
       record {
         range = (in-range, λ r. first (inside-said r));
         least = λ z. let r = in-range z in
-            subst (IsBound m) (sym (ap (λ l. word l 3) (inside-said r))) (leastBound m (r .low) (r .high));
+            subst (IsBound m) (sym (ap (λ l. wordAt l 3) (inside-said r))) (leastBound m (r .low) (r .high));
         outside = outside;
       }
 
@@ -139,17 +139,17 @@ module _ (f o o′ : List ℕ) (h : GridCall f o 1 o′) where
   grid-said : o′ ≡ gridWords f
   grid-said = wrote (has 12 o) _ o o′ (h .result) (h .out)
 
-  grid-number : word o′ 0 ≡ fileNumber f
+  grid-number : wordAt o′ 0 ≡ fileNumber f
   grid-number =
       elim (ℕ-discrete (fileNumber f) 0) [
         | yes e ↦ first (grid-said ∙ grid-accepted f e) ∙ sym e
         | no n ↦ first (grid-said ∙ grid-refused f n) ∙ refusal-number f 1
       ]
 
-  no-grid : ¬ (word o′ 0 ≡ 0) → drop 3 o′ ≡ replicate 9 0
+  no-grid : ¬ (wordAt o′ 0 ≡ 0) → drop 3 o′ ≡ replicate 9 0
   no-grid n = ap (drop 3) (grid-said ∙ grid-refused f (λ e. n (grid-number ∙ e)))
 
-  module _ (zero : word o′ 0 ≡ 0) where
+  module _ (zero : wordAt o′ 0 ≡ 0) where
     abbrev us : List ℕ
     us = axesOf (sizesOf f)
 
@@ -176,23 +176,23 @@ module _ (f o o′ : List ℕ) (h : GridCall f o 1 o′) where
         ∙ ap (take (sizesOf f .d)) (append-assoc us zeros (gridSize (sizesOf f) ∷ []))
         ∙ take-at us _ (sizesOf f .d) axes-count
 
-    others-zero : (i : ℕ) → sizesOf f .d ≤ i → i < 8 → word o′ (3 + i) ≡ 0
+    others-zero : (i : ℕ) → sizesOf f .d ≤ i → i < 8 → wordAt o′ (3 + i) ≡ 0
     others-zero i low high =
         sym (getD-drop 3 o′ i 0)
         ∙ ap (λ l. getD (drop 3 l) i 0) grid-words
         ∙ List·getD-append (us ++ zeros) (gridSize (sizesOf f) ∷ []) 0 i (omega (arith, eight))
         ∙ ap (λ k. getD (us ++ replicate (8 - k) 0) i 0) (sym axes-count)
-        ∙ held-entry us i
+        ∙ padded-entry us i
         ∙ List·getD-eq-default us 0 (omega (arith, axes-count))
 
-    size-last : word o′ 11 ≡ gridSize (sizesOf f)
-    size-last = ap (λ l. word l 11) grid-words ∙ getD-at (us ++ zeros) (gridSize (sizesOf f)) [] 0 8 eight
+    size-last : wordAt o′ 11 ≡ gridSize (sizesOf f)
+    size-last = ap (λ l. wordAt l 11) grid-words ∙ getD-at (us ++ zeros) (gridSize (sizesOf f)) [] 0 8 eight
 
   gridded : Gridded f o′
   gridded =
       record { number = grid-number; axes = axes-first; others = others-zero; size = size-last; none = no-grid }
 
-module _ (f x s o s′ o′ : List ℕ) (h : EvaluateCall f x s o 1 s′ o′) (zero : word o′ 0 ≡ 0) where
+module _ (f x s o s′ o′ : List ℕ) (h : EvaluateCall f x s o 1 s′ o′) (zero : wordAt o′ 0 ≡ 0) where
   evaluate-said : o′ ≡ evaluateWords (evaluatedAt f x (length s))
   evaluate-said = wrote (has 4 o) _ o o′ (h .result) (h .out)
 
@@ -204,11 +204,11 @@ module _ (f x s o s′ o′ : List ℕ) (h : EvaluateCall f x s o 1 s′ o′) (
   evaluated =
       let p = answer-accepted f x s evaluate-number in
       record {
-        output = ap (λ l. word l 3) evaluate-said ∙ ap (λ (a : Answer). a .output) (sym (p .0));
-        scratch = wrote (has 4 o) (scratchAfter f x s) s s′ (h .result) (h .scratch) ∙ sym (p .1);
+        output = ap (λ l. wordAt l 3) evaluate-said ∙ ap (λ (a : Answer). a .output) (sym (p .0));
+        scratch = wrote (has 4 o) (evaluatedScratch f x s) s s′ (h .result) (h .scratch) ∙ sym (p .1);
       }
 
-module _ (f s t o s′ t′ o′ : List ℕ) (h : TableCall f s t o 1 s′ t′ o′) (zero : word o′ 0 ≡ 0) where
+module _ (f s t o s′ t′ o′ : List ℕ) (h : TableCall f s t o 1 s′ t′ o′) (zero : wordAt o′ 0 ≡ 0) where
   table-answer : o′ ≡ refusalWords (tableRefusal f (length s) (length t))
   table-answer = wrote (has 3 o) _ o o′ (h .result) (h .out)
 
@@ -237,7 +237,7 @@ module _ (f s t o s′ t′ o′ : List ℕ) (h : TableCall f s t o 1 s′ t′ 
       }
 
 module _
-    (f₁ f₂ : List ℕ) (B : ℕ) (w s a w′ s′ a′ : List ℕ) (h : ContinueCall f₁ f₂ B w s a 1 w′ s′ a′) (zero : word a′ 0 ≡ 0)
+    (f₁ f₂ : List ℕ) (B : ℕ) (w s a w′ s′ a′ : List ℕ) (h : ContinueCall f₁ f₂ B w s a 1 w′ s′ a′) (zero : wordAt a′ 0 ≡ 0)
   where
     abbrev R : Refusal
     R = continueRefusal f₁ f₂ (sessionFrom w) B (length s)
@@ -267,7 +267,7 @@ module _ (z x y q y′ q′ : List ℕ) (v : Sizes) (c w : List ℕ) (same : siz
       ap (λ (k : Sizes). cellsRefusal k x (length y)) same ∙ ap (λ (k : List ℕ). cellsRefusal v k (length y)) given
 
   summed-next :
-      SumCall z x y q 1 y′ q′ → cellsRefusal v c (length y) ≡ accepted → Holds v w y (summedUp v c y) → Written v w y y′ q′
+      SumCall z x y q 1 y′ q′ → cellsRefusal v c (length y) ≡ accepted → HoldsCells v w y (summedUp v c y) → CellsWritten v w y y′ q′
   summed-next k e p =
       record {
         number = first (wrote (cellsFit z q) (refusalWords (cellsRefusal (sizesFrom z) x (length y))) q q′ (k .result) (k .out)) ∙ number-of (refusal-same ∙ e);
@@ -279,7 +279,7 @@ module _ (z x y q y′ q′ : List ℕ) (v : Sizes) (c w : List ℕ) (same : siz
       }
 
   differenced-next :
-      DifferenceCall z x y q 1 y′ q′ → cellsRefusal v c (length y) ≡ accepted → Holds v w y (differenced v c y) → Written v w y y′ q′
+      DifferenceCall z x y q 1 y′ q′ → cellsRefusal v c (length y) ≡ accepted → HoldsCells v w y (differenced v c y) → CellsWritten v w y y′ q′
   differenced-next k e p =
       record {
         number = first (wrote (cellsFit z q) (refusalWords (cellsRefusal (sizesFrom z) x (length y))) q q′ (k .result) (k .out)) ∙ number-of (refusal-same ∙ e);
@@ -305,7 +305,7 @@ sum-of-table f s t o s′ t′ o′ h zero y q y′ q′ k room =
 -- a first call that is accepted
 first-passed :
     (z x y o o′ : List ℕ) → 1 ≡ returned (cellsFit z o) →
-    o′ ≡ leaves (cellsFit z o) (refusalWords (cellsRefusal (sizesFrom z) x (length y))) o → word o′ 0 ≡ 0 →
+    o′ ≡ leaves (cellsFit z o) (refusalWords (cellsRefusal (sizesFrom z) x (length y))) o → wordAt o′ 0 ≡ 0 →
     cellsRefusal (sizesFrom z) x (length y) ≡ accepted
 first-passed z x y o o′ r e zero =
     let said = wrote (cellsFit z o) (refusalWords (cellsRefusal (sizesFrom z) x (length y))) o o′ r e in

@@ -15,12 +15,12 @@ use Rattle.file.specs.Accepted.{Accepted}
 use Rattle.fields.specs.File.{sizesOf}
 use Rattle.grid.specs.Grid.{widthsOf}
 use Rattle.layouts.specs.AnswerWords.{kindWord, answerFrom}
-use Rattle.layouts.specs.Lengths.{word, atNumber, atPosition, atMark, atVector, atOutput₁, atOutput₂}
+use Rattle.layouts.specs.Lengths.{wordAt, atNumber, atPosition, atMark, atVector, atOutput₁, atOutput₂}
 use Rattle.layouts.specs.SessionWords.{markWord, sessionWords}
-use Rattle.layouts.specs.Statement.{Held}
+use Rattle.layouts.specs.Statement.{ByteSession}
 use Rattle.layouts.proofs.Answers.{answersAsWords}
 use Rattle.layouts.proofs.Sessions.{sessionsAsWords, position-next, mark-last, file-widths}
-use Rattle.places.proofs.LastAxis.{below-length}
+use Rattle.places.proofs.LastAxis.{length-below}
 use Rattle.session_calls.specs.SessionCalls.{openFits, OpenCall}
 use Rattle.sessions.specs.Calls.{Call, answerTo, sessionAfter, IsRefused as RefusedAnswer, IsVerdict}
 use Rattle.sessions.specs.Demand3.{stop, stopVector, ShowsFirst, Settled, MarkOf, start, Whole}
@@ -33,8 +33,8 @@ use Rattle.sessions.specs.declared.Session.{Session}
 use Rattle.sessions.proofs.Demand3.{demand3}
 use Rattle.sessions.proofs.Pair.{comparable}
 use Rattle.sizes.specs.Sizes.{maxInputs}
-use Rattle.vectors.specs.Vectors.{held}
-use Rattle.vectors.proofs.Held.{held-entry}
+use Rattle.vectors.specs.Vectors.{padded}
+use Rattle.vectors.proofs.Padded.{padded-entry}
 use Rattle.callers.specs.Demand3InC.{ShowsFirstInC, SettledInC, LaterInC, FinishedInC, UnfinishedInC, WholeInC, Demand3InC}
 use Rattle.callers.specs.Made.{Made, kind, left, IsRefused, GivesVerdict, OwnFiles, budgets}
 use Rattle.callers.proofs.Mirror.{call, Answered, Mirror, Mirrored, mirrored, held-after, left-words, kind-told, refused-told, refused-given, budgets-told, runs-told, each-told, allowed-told, passed, found}
@@ -76,9 +76,9 @@ unfolding markWord
 word-differ = refl
 
 -- what the words of a call that returned 1 tell of its answer
-module _ {z : Session} {c : Made} (a : Answered z c) where
+module _ {σ : Session} {c : Made} (a : Answered σ c) where
   abbrev said : Answer
-  said = answerTo z (call c) .answer
+  said = answerTo σ (call c) .answer
 
   told-2 : kind c ≡ 2 → said .kind ≡ Equivalent
   told-2 e = kind-2 _ (sym (kind-told a) ∙ e)
@@ -104,58 +104,58 @@ module _ {z : Session} {c : Made} (a : Answered z c) where
   unfolding answerTo
   read-back =
       ap answerFrom (a .said)
-      ∙ answersAsWords .decoded said (answersAsWords .continued (c .file₁) (c .file₂) z (c .budget) (length (c .scratch)))
+      ∙ answersAsWords .decoded said (answersAsWords .continued (c .file₁) (c .file₂) σ (c .budget) (length (c .scratch)))
 
   vector-told : take maxInputs (drop atVector (c .answer′)) ≡ said .vector
   unfolding answerFrom
   vector-told = ap (λ (a : Answer). a .vector) read-back
 
-  output₁-told : word (c .answer′) atOutput₁ ≡ said .output1
+  output₁-told : wordAt (c .answer′) atOutput₁ ≡ said .output1
   unfolding answerFrom
   output₁-told = ap (λ (a : Answer). a .output1) read-back
 
-  output₂-told : word (c .answer′) atOutput₂ ≡ said .output2
+  output₂-told : wordAt (c .answer′) atOutput₂ ≡ said .output2
   unfolding answerFrom
   output₂-told = ap (λ (a : Answer). a .output2) read-back
 
   -- the vector x of d values, held in the vector words
-  module _ (x : List ℕ) (d : ℕ) (e : length x ≡ d) (l : d ≤ maxInputs) (v : said .vector ≡ held x) where
+  module _ (x : List ℕ) (d : ℕ) (e : length x ≡ d) (l : d ≤ maxInputs) (v : said .vector ≡ padded x) where
     first-words : take d (drop atVector (c .answer′)) ≡ x
     first-words =
         sym (take-take d maxInputs (drop atVector (c .answer′)) l) ∙ ap (take d) (vector-told ∙ v) ∙ take-at x _ d e
 
-    other-words : (i : ℕ) → d ≤ i → i < maxInputs → word (c .answer′) (atVector + i) ≡ 0
+    other-words : (i : ℕ) → d ≤ i → i < maxInputs → wordAt (c .answer′) (atVector + i) ≡ 0
     other-words i low high =
         sym (getD-drop atVector (c .answer′) i 0)
         ∙ sym (getD-take maxInputs (drop atVector (c .answer′)) i 0 high)
         ∙ ap (λ (l : List ℕ). getD l i 0) (vector-told ∙ v)
-        ∙ held-entry x i
+        ∙ padded-entry x i
         ∙ List·getD-eq-default x 0 (omega arith)
 
-silent-told : (z : Session) (c : Made) → Answered z c → ¬ IsVerdict (answerTo z (call c) .answer) → ¬ GivesVerdict c
-silent-told z c a n v = n (verdict-told a v)
+silent-told : (σ : Session) (c : Made) → Answered σ c → ¬ IsVerdict (answerTo σ (call c) .answer) → ¬ GivesVerdict c
+silent-told σ c a n v = n (verdict-told a v)
 
 silent-skipped : (c : Made) → c .result ≡ 0 → ¬ GivesVerdict c
 silent-skipped c e v = omega (arith, v .laid)
 
 later-told :
-    (z : Session) (c : Made) → Answered z c →
-    RefusedAnswer (answerTo z (call c) .answer) × (¬ IsVerdict (answerTo z (call c) .answer)) → LaterInC c
-later-told z c a p = record { refused = λ _. refused-given a (p .0); silent = silent-told z c a (p .1) }
+    (σ : Session) (c : Made) → Answered σ c →
+    RefusedAnswer (answerTo σ (call c) .answer) × (¬ IsVerdict (answerTo σ (call c) .answer)) → LaterInC c
+later-told σ c a p = record { refused = λ _. refused-given a (p .0); silent = silent-told σ c a (p .1) }
 
 later-skipped : (c : Made) → c .result ≡ 0 → LaterInC c
 later-skipped c e = record { refused = λ q. absurd (omega arith); silent = silent-skipped c e }
 
-module _ (f₁ f₂ : List ℕ) (sound : Accepted f₁) {z : Session} {c : Made} (a : Answered z c) where
+module _ (f₁ f₂ : List ℕ) (sound : Accepted f₁) {σ : Session} {c : Made} (a : Answered σ c) where
   -- a full-width vector has d values
-  full-length : (x : List ℕ) → length x ≡ length (ranges (widthsOf (sizesOf f₁))) → length x ≡ sizesOf f₁ .d
-  full-length x e =
+  length-full : (x : List ℕ) → length x ≡ length (ranges (widthsOf (sizesOf f₁))) → length x ≡ sizesOf f₁ .d
+  length-full x e =
       e ∙ simp (length-map, length-take) (omega (arith, file-widths f₁ (sound .long), sound .inputsHigh))
 
   shown : ShowsFirst f₁ f₂ (said a) → ShowsFirstInC f₁ f₂ c
   shown s =
       let x = stopVector f₁ f₂ in
-      let l = full-length x (below-length (ranges (widthsOf (sizesOf f₁))) x (s .first .fullWidth)) in
+      let l = length-full x (length-below (ranges (widthsOf (sizesOf f₁))) x (s .first .fullWidth)) in
       record {
         place = s .place;
         first = s .first;
@@ -172,17 +172,17 @@ module _ (f₁ f₂ : List ℕ) (sound : Accepted f₁) {z : Session} {c : Made}
         differs = λ e. shown (s .differs (told-3 a e));
       }
 
-module _ (f₁ f₂ w₀ o w o′ : List ℕ) (h : OpenCall f₁ f₂ w₀ o 1 w o′) (zero : word o′ atNumber ≡ 0) where
+module _ (f₁ f₂ w₀ o w o′ : List ℕ) (h : OpenCall f₁ f₂ w₀ o 1 w o′) (zero : wordAt o′ atNumber ≡ 0) where
   laid : openFits w₀ o ≡ true
   laid = right-told 1 _ (h .result) refl
 
   pub number-0 : opened f₁ f₂ .refusal .number ≡ 0
-  number-0 = sym (ap (λ l. word l atNumber) (right-left _ _ _ _ (h .out) laid)) ∙ zero
+  number-0 = sym (ap (λ l. wordAt l atNumber) (right-left _ _ _ _ (h .out) laid)) ∙ zero
 
   pub start-words : w ≡ sessionWords (start f₁ f₂)
   start-words = right-left _ _ _ _ (h .session) laid
 
-  start-held : Held (start f₁ f₂)
+  start-held : ByteSession (start f₁ f₂)
   start-held = sessionsAsWords .opened f₁ f₂
 
   sound : Accepted f₁
@@ -196,12 +196,12 @@ module _ (f₁ f₂ w₀ o w o′ : List ℕ) (h : OpenCall f₁ f₂ w₀ o 1 w
     last-words : left w cs ≡ sessionWords last
     last-words = left-words w start-words (m .mirror)
 
-    position-told : word (left w cs) atPosition ≡ last .position
+    position-told : wordAt (left w cs) atPosition ≡ last .position
     position-told =
-        ap (λ l. word l atPosition) last-words ∙ position-next last (held-after (start f₁ f₂) start-held (m .calls))
+        ap (λ l. wordAt l atPosition) last-words ∙ position-next last (held-after (start f₁ f₂) start-held (m .calls))
 
-    mark-told : word (left w cs) atMark ≡ markWord (last .mark)
-    mark-told = ap (λ l. word l atMark) last-words ∙ mark-last last (held-after (start f₁ f₂) start-held (m .calls))
+    mark-told : wordAt (left w cs) atMark ≡ markWord (last .mark)
+    mark-told = ap (λ l. wordAt l atMark) last-words ∙ mark-last last (held-after (start f₁ f₂) start-held (m .calls))
 
     refused :
         (before : List Made) (c : Made) (after : List Made) → cs ≡ before ++ c ∷ after → OwnFiles f₁ f₂ c → c .result ≡ 1 →
@@ -224,17 +224,17 @@ module _ (f₁ f₂ w₀ o w o′ : List ℕ) (h : OpenCall f₁ f₂ w₀ o 1 w
     finished l =
         let f = whole .finished (omega (arith, budgets-told (m .mirror))) in
         let r = found (m .mirror) (f .before) (f .call) (f .after) (f .split) in
-        let z = sessionAfter (start f₁ f₂) (f .before) in
-        let marked = subst (λ (k : Call). MarkOf (answerTo z k .answer) (last .mark)) (sym (r .same)) (f .marked) in
+        let σ = sessionAfter (start f₁ f₂) (f .before) in
+        let marked = subst (λ (k : Call). MarkOf (answerTo σ k .answer) (last .mark)) (sym (r .same)) (f .marked) in
         record {
           before = r .before;
           call = r .made;
           after = r .after;
           split = r .split;
           none-before = each-told _ _ silent-told silent-skipped (r .passed-before) (f .none-before);
-          verdict = verdict-given (r .here) (subst (λ (k : Call). IsVerdict (answerTo z k .answer)) (sym (r .same)) (f .verdict));
+          verdict = verdict-given (r .here) (subst (λ (k : Call). IsVerdict (answerTo σ k .answer)) (sym (r .same)) (f .verdict));
           settled =
-              settled f₁ f₂ sound (r .here) (subst (λ (k : Call). Settled f₁ f₂ (answerTo z k .answer)) (sym (r .same)) (f .settled));
+              settled f₁ f₂ sound (r .here) (subst (λ (k : Call). Settled f₁ f₂ (answerTo σ k .answer)) (sym (r .same)) (f .settled));
           refused-after = each-told _ _ later-told later-skipped (r .passed-after) (f .refused-after);
           marked =
               record {

@@ -10,24 +10,25 @@ use native.Mathlib.Omega.{arith}
 use lib.Dec.{eqb}
 use lib.ListN.{length, replicate}
 use borrow.Author.Tests.{ne-eqb}
-use Rattle.evaluate.specs.Evaluate.{refusalAt, accepts, evaluatedAt, scratchAfter}
+use Rattle.evaluate.specs.Evaluate.{refusalAt, evaluatedAt, evaluatedScratch}
 use Rattle.file.specs.Check.{refusalOf}
 use Rattle.file_calls.specs.FileCalls.{EvaluateCall, operationsLength, operationWords, evaluateLength, evaluateWords}
 use Rattle.grid_calls.specs.GridCalls.{boundLength, boundWords, gridLength, gridWords}
 use Rattle.layouts.specs.AnswerWords.{refusalWords, kindWord, answerWords}
 use Rattle.layouts.specs.Layout.{has, returned, leaves}
-use Rattle.layouts.specs.Lengths.{word, atNumber, sessionLength, refusalLength, answerLength}
+use Rattle.layouts.specs.Lengths.{wordAt, atNumber, sessionLength, refusalLength, answerLength}
 use Rattle.layouts.specs.SessionWords.{markWord, sessionWords, sessionFits, sessionFrom}
 use Rattle.layouts.specs.SizeWords.{sizeWords, sizesFrom}
 use Rattle.layouts.proofs.Sessions.{sessionsAsWords}
 use Rattle.report_calls.specs.ReportCalls.{reportFits}
 use Rattle.session_calls.specs.SessionCalls.{openFits, OpenCall, continueFits, continuing, ContinueCall}
 use Rattle.sessions.specs.Calls.{Call, answerTo}
-use Rattle.sessions.specs.Session.{isRefusal, noSession, opened, continueRefusal, refusedAnswer, continued}
+use Rattle.sessions.specs.Session.{noSession, opened, continueRefusal, refusedAnswer, continued}
 use Rattle.sessions.specs.declared.Continued.{Continued}
 use Rattle.sessions.specs.declared.Session.{Session}
 use Rattle.sessions.proofs.Cases.{scratch-refused}
 use Rattle.sessions.proofs.Step.{kept, answer-refusal}
+use Rattle.sizes.specs.Sizes.{accepts, isRefusal}
 use Rattle.sizes.specs.declared.Refusal.{Refusal}
 use Rattle.table_calls.specs.TableCalls.{cellsFit, TableCall, DifferenceCall, SumCall}
 use Rattle.cells.specs.Cells.{cellsRefusal}
@@ -53,24 +54,24 @@ module _ (b : Bool) (after before slice : List ℕ) (e : slice ≡ leaves b afte
   right-left q = e ∙ rw q
 
 -- the number word of a refusal's words
-module _ (o : List ℕ) (n : Refusal) (rest : List ℕ) (e : o ≡ refusalWords n ++ rest) (x : ¬ (word o atNumber ≡ 0)) where
+module _ (o : List ℕ) (n : Refusal) (rest : List ℕ) (e : o ≡ refusalWords n ++ rest) (x : ¬ (wordAt o atNumber ≡ 0)) where
   not-accepted : eqb (n .number) 0 ≡ false
   not-accepted =
-      let q : word o atNumber ≡ n .number = ap (λ l. word l atNumber) e in
+      let q : wordAt o atNumber ≡ n .number = ap (λ l. wordAt l atNumber) e in
       ne-eqb (n .number) 0 (λ z. x (q ∙ z))
 
   refused-number : isRefusal n ≡ true
   refused-number = rw not-accepted
 
 module _ (f₁ f₂ : List ℕ) (B : ℕ) (w s a : List ℕ) (r : ℕ) (w′ s′ a′ : List ℕ) (h : ContinueCall f₁ f₂ B w s a r w′ s′ a′) where
-  abbrev z : Session
-  z = sessionFrom w
+  abbrev σ : Session
+  σ = sessionFrom w
 
   abbrev k : Call
   k = record { file₁ = f₁; file₂ = f₂; budget = B; scratch = length s }
 
   abbrev R : Refusal
-  R = continueRefusal f₁ f₂ z B (length s)
+  R = continueRefusal f₁ f₂ σ B (length s)
 
   continue-wrong : r ≡ 0 → continueFits w a ≡ false
   continue-wrong e = wrong-told r (continueFits w a) (h .result) e
@@ -91,12 +92,12 @@ module _ (f₁ f₂ : List ℕ) (B : ℕ) (w s a : List ℕ) (r : ℕ) (w′ s�
   continue-refused : Refused r a′ → isRefusal R ≡ true
   unfolding answerTo answerWords
   continue-refused q =
-      sym (answer-refusal z k)
+      sym (answer-refusal σ k)
       ∙ refused-number a′ (continuing f₁ f₂ w B s .answer .refusal) _ (answer-said q) (q .number)
 
-  as-kept : Refused r a′ → continued f₁ f₂ z B (length s) ≡ record { session = z; answer = refusedAnswer R }
+  as-kept : Refused r a′ → continued f₁ f₂ σ B (length s) ≡ record { session = σ; answer = refusedAnswer R }
   unfolding answerTo
-  as-kept q = kept z k (continue-refused q)
+  as-kept q = kept σ k (continue-refused q)
 
   continue-session : NotAccepted r a′ → w′ ≡ w
   continue-session (inl e) = h .session ∙ rw (continue-wrong e)
@@ -108,7 +109,7 @@ module _ (f₁ f₂ : List ℕ) (B : ℕ) (w s a : List ℕ) (r : ℕ) (w′ s�
   continue-scratch : NotAccepted r a′ → s′ ≡ s
   continue-scratch (inl e) = h .scratch ∙ rw (continue-wrong e)
   continue-scratch (inr q) =
-      h .scratch ∙ rw (continue-laid q) (sym (scratch-refused f₁ f₂ z B s (continue-refused q)))
+      h .scratch ∙ rw (continue-laid q) (sym (scratch-refused f₁ f₂ σ B s (continue-refused q)))
 
   refused-words : answerWords (refusedAnswer R) ≡ refusalWords R ++ replicate (answerLength - refusalLength) 0
   unfolding answerWords refusedAnswer kindWord
@@ -163,13 +164,13 @@ module _ (f x s o : List ℕ) (r : ℕ) (s′ o′ : List ℕ) (h : EvaluateCall
   evaluate-said : Refused r o′ → o′ ≡ evaluateWords (evaluatedAt f x (length s))
   evaluate-said q = h .out ∙ rw (evaluate-laid q)
 
-  evaluate-refused : Refused r o′ → accepts f x (length s) ≡ false
-  unfolding accepts evaluatedAt
+  evaluate-refused : Refused r o′ → accepts (refusalAt f x (length s)) ≡ false
+  unfolding evaluatedAt
   evaluate-refused q =
       not-accepted o′ (refusalAt f x (length s)) _ (evaluate-said q) (q .number)
 
-  scratch-kept : Refused r o′ → scratchAfter f x s ≡ s
-  unfolding scratchAfter
+  scratch-kept : Refused r o′ → evaluatedScratch f x s ≡ s
+  unfolding evaluatedScratch
   scratch-kept q = rw (evaluate-refused q)
 
   no-output : Refused r o′ → evaluateWords (evaluatedAt f x (length s)) ≡ refusalWords (refusalAt f x (length s)) ++ (0 ∷ [])

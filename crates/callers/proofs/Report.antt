@@ -10,7 +10,7 @@ use lib.ListN.{length, take, drop, length-take, length-drop, take-append-drop}
 use lib.Seq.{take-append-le}
 use Rattle.fields.specs.File.{sizesOf}
 use Rattle.layouts.specs.AnswerWords.{kindFrom, answerWords, answerFits, answerFrom}
-use Rattle.layouts.specs.Lengths.{word, atNumber}
+use Rattle.layouts.specs.Lengths.{wordAt, atNumber}
 use Rattle.layouts.specs.SessionWords.{sessionFrom}
 use Rattle.layouts.proofs.Answers.{answersAsWords}
 use Rattle.layouts.proofs.Sessions.{sessionsAsWords}
@@ -63,12 +63,12 @@ reportInC f₁ f₂ w₀ o w o′ h zero cs chain allowed before c after split v
     let e = number-0 f₁ f₂ w₀ o w o′ h zero in
     let m = mirrored (start f₁ f₂) (sessionsAsWords .opened f₁ f₂) w (start-words f₁ f₂ w₀ o w o′ h zero) cs chain in
     let p = passed before c after (v .laid) (subst (λ (k : List Made). Mirror (start f₁ f₂) k (m .calls)) split (m .mirror)) in
-    let z = sessionAfter (start f₁ f₂) (p .earlier) in
+    let σ = sessionAfter (start f₁ f₂) (p .earlier) in
     let whole =
     reportedInFull f₁ f₂ e (m .calls) (allowed-told f₁ f₂ (m .mirror) allowed) (p .earlier) (call c) (p .later) (p .split) (verdict-told (p .here) v) in
     shown f₁ f₂ (c .answer′) (runs cs) t l t′ l′ r
-    (said-text f₁ f₂ (c .file₁) (c .file₂) z (c .budget) (length (c .scratch)) (c .answer′) (runs cs) (p .here .said)
-    ∙ ap (reportOf f₁ f₂ (answerTo z (call c) .answer)) (runs-told (m .mirror))
+    (said-text f₁ f₂ (c .file₁) (c .file₂) σ (c .budget) (length (c .scratch)) (c .answer′) (runs cs) (p .here .said)
+    ∙ ap (reportOf f₁ f₂ (answerTo σ (call c) .answer)) (runs-told (m .mirror))
     ∙ whole)
 
 pub refusedReportInC : RefusedReportInC
@@ -78,7 +78,7 @@ refusedReportInC f₁ f₂ w₀ o w o′ h x B s a w′ s′ a′ k b n t l t′
     let words = right-left _ _ w₀ _ (h .session) laid in
     let back = ap sessionFrom words ∙ sessionsAsWords .decoded (opened f₁ f₂ .session) (sessionsAsWords .opened f₁ f₂) in
     let said = right-left _ _ a _ (k .answer) went ∙ ap (λ q. answerWords (continued f₁ f₂ q B (length s) .answer)) back in
-    let number = ap (λ l. word l atNumber) (right-left _ _ o _ (h .out) laid) in
+    let number = ap (λ l. wordAt l atNumber) (right-left _ _ o _ (h .out) laid) in
     shown f₁ f₂ a′ n t l t′ l′ r
     (said-text f₁ f₂ f₁ f₂ (opened f₁ f₂ .session) B (length s) a′ n said
     ∙ refusedReported f₁ f₂ (λ e. x (number ∙ e)) B (length s) n b)
@@ -101,7 +101,7 @@ unfolding kindFrom
 kind-3 = refl
 
 -- the answer that words give has it
-kind-given : (a : List ℕ) {n : ℕ} {k : Kind} → kindFrom n ≡ k → word a 3 ≡ n → answerFrom a .kind ≡ k
+kind-given : (a : List ℕ) {n : ℕ} {k : Kind} → kindFrom n ≡ k → wordAt a 3 ≡ n → answerFrom a .kind ≡ k
 unfolding answerFrom
 kind-given a q e = ap kindFrom e ∙ q
 
@@ -120,10 +120,10 @@ module _ (f₁ f₂ a : List ℕ) (n : ℕ) (t l t′ l′ : List ℕ) (r : Repo
       }
 
   -- words of a kind are an answer
-  kind-fits : word a 3 ≤ 3 → answerFits a ≡ true
+  kind-fits : wordAt a 3 ≤ 3 → answerFits a ≡ true
   kind-fits h = answer-fits a (record { long = takenInC .reporting f₁ f₂ a n t l 1 t′ l′ r .taken .0 refl .answer; kind = h })
 
-  text-given : word a 3 ≤ 3 → reportText f₁ f₂ a n ≡ reportOf f₁ f₂ (answerFrom a) n
+  text-given : wordAt a 3 ≤ 3 → reportText f₁ f₂ a n ≡ reportOf f₁ f₂ (answerFrom a) n
   unfolding reportText
   text-given h = rw (kind-fits h)
 
@@ -134,15 +134,15 @@ module _ (f₁ f₂ a : List ℕ) (n : ℕ) (t l t′ l′ : List ℕ) (r : Repo
         count = right-left _ _ l _ (r .out) laid ∙ ap (λ (u : List ℕ). length u ∷ []) e;
       }
 
-  verdict-given : (word a 3 ≡ 2) ⊎ (word a 3 ≡ 3) → IsVerdict (answerFrom a)
+  verdict-given : (wordAt a 3 ≡ 2) ⊎ (wordAt a 3 ≡ 3) → IsVerdict (answerFrom a)
   verdict-given (inl e) = inl (kind-given a kind-2 e)
   verdict-given (inr e) = inr (kind-given a kind-3 e)
 
-  verdict-low : (word a 3 ≡ 2) ⊎ (word a 3 ≡ 3) → word a 3 ≤ 3
-  verdict-low (inl e) = omega arith
-  verdict-low (inr e) = omega arith
+  verdict-most : (wordAt a 3 ≡ 2) ⊎ (wordAt a 3 ≡ 3) → wordAt a 3 ≤ 3
+  verdict-most (inl e) = omega arith
+  verdict-most (inr e) = omega arith
 
-  no-kind : ¬ (word a 3 ≡ 0) → ¬ (word a 3 ≡ 2) → ¬ (word a 3 ≡ 3) → reportText f₁ f₂ a n ≡ []
+  no-kind : ¬ (wordAt a 3 ≡ 0) → ¬ (wordAt a 3 ≡ 2) → ¬ (wordAt a 3 ≡ 3) → reportText f₁ f₂ a n ≡ []
   unfolding reportText
   no-kind x y z =
       ⊎-elim
@@ -167,14 +167,14 @@ verdictTextInC f₁ f₂ a n t l t′ l′ r o v =
     let s = shownAsIs f₁ f₂ o (answerFrom a) n (verdict-given f₁ f₂ a n t l t′ l′ r v) in
     let long : length a ≡ 15 = takenInC .reporting f₁ f₂ a n t l 1 t′ l′ r .taken .0 refl .answer in
     stands f₁ f₂ a n t l t′ l′ r
-    (rw (text-given f₁ f₂ a n t l t′ l′ r (verdict-low f₁ f₂ a n t l t′ l′ r v))
+    (rw (text-given f₁ f₂ a n t l t′ l′ r (verdict-most f₁ f₂ a n t l t′ l′ r v))
     (record {
       verdict = s .verdict;
       lines = s .lines;
       equivalent = λ e. s .equivalent (kind-given a kind-2 e);
       differs = λ e.
           s .differs (kind-given a kind-3 e)
-          ∙ ap (λ x. differWords x (word a 13) (word a 14)) (front (sizesOf f₁ .d) 8 (drop 5 a) (rw (length-take, length-drop) (omega (arith, long, comparable f₁ f₂ (pair-accepted f₁ f₂ o) .sound₁ .inputsHigh))));
+          ∙ ap (λ x. differWords x (wordAt a 13) (wordAt a 14)) (front (sizesOf f₁ .d) 8 (drop 5 a) (rw (length-take, length-drop) (omega (arith, long, comparable f₁ f₂ (pair-accepted f₁ f₂ o) .sound₁ .inputsHigh))));
     }))
 
 pub noTextInC : NoTextInC
@@ -183,6 +183,6 @@ noTextInC =
       kinds = λ f₁ f₂ a n t l t′ l′ r x y z. empty f₁ f₂ a n t l t′ l′ r (no-kind f₁ f₂ a n t l t′ l′ r x y z);
       unopened = λ f₁ f₂ a n t l t′ l′ r o v.
           empty f₁ f₂ a n t l t′ l′ r
-          (text-given f₁ f₂ a n t l t′ l′ r (verdict-low f₁ f₂ a n t l t′ l′ r v)
+          (text-given f₁ f₂ a n t l t′ l′ r (verdict-most f₁ f₂ a n t l t′ l′ r v)
           ∙ noText .unopened f₁ f₂ o (answerFrom a) n (verdict-given f₁ f₂ a n t l t′ l′ r v));
     }

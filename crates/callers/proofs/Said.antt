@@ -6,7 +6,6 @@ use mathlib.Core.Logic.{⊎-elim}
 use mathlib.Core.Path.{_≡_, refl, sym, _∙_, ap}
 use Prim.Native.Nat.{ℕ}
 use native.Mathlib.Decide.{ℕ-discrete}
-use native.Mathlib.Omega.{arith}
 use lib.Dec.{eqb}
 use lib.ListN.{length}
 use borrow.Author.Tests.{eq-eqb, ne-eqb, eqb-true, not-false}
@@ -14,25 +13,24 @@ use Rattle.engine.specs.Engine.{largerCount}
 use Rattle.evaluate.specs.Evaluate.{shortScratch, badVector, refusalAt, evaluatedAt}
 use Rattle.file.specs.Check.{fileNumber, refusalOf}
 use Rattle.fields.specs.File.{sizesOf, stepCount}
-use Rattle.file_calls.specs.FileCalls.{CheckCall, EvaluateCall}
 use Rattle.grid.specs.Grid.{gridSize, gridOf, tooLarge}
-use Rattle.grid_calls.specs.GridCalls.{BoundCall, GridCall, boundWords, gridWords, noGrid, gridAsWords}
+use Rattle.grid_calls.specs.GridCalls.{boundWords, gridWords, noGrid, gridAsWords}
 use Rattle.grid_calls.proofs.Answered.{grid-refused, grid-accepted}
 use Rattle.layouts.specs.AnswerWords.{refusalWords, kindWord, answerWords}
 use Rattle.layouts.specs.Layout.{has}
-use Rattle.layouts.specs.Lengths.{word}
+use Rattle.layouts.specs.Lengths.{wordAt}
 use Rattle.layouts.specs.SessionWords.{sessionFrom}
 use Rattle.layouts.specs.SizeWords.{sizesFrom}
 use Rattle.ranges.proofs.Search.{true-or-false}
-use Rattle.session_calls.specs.SessionCalls.{openFits, OpenCall, continueFits, continuing, ContinueCall}
-use Rattle.sessions.specs.Session.{sameSizes, isRefusal, pairRefusal, misplaced, isClosed, stateRefusal, opened, continueRefusal, refusedAnswer, advanced, continued}
+use Rattle.session_calls.specs.SessionCalls.{openFits, continueFits, continuing, ContinueCall}
+use Rattle.sessions.specs.Session.{sameSizes, pairRefusal, misplaced, isClosed, stateRefusal, opened, continueRefusal, refusedAnswer, advanced, continued}
 use Rattle.sessions.specs.declared.Answer.{Answer}
 use Rattle.sessions.specs.declared.Session.{Session}
 use Rattle.sessions.proofs.Step.{progress-accepts}
-use Rattle.sizes.specs.Sizes.{within, badOutput, badInputs, badWidths, refusedBy, accepted}
+use Rattle.sizes.specs.Sizes.{within, badOutput, badInputs, badWidths, refusedBy, accepted, isRefusal}
 use Rattle.sizes.specs.declared.Refusal.{Refusal}
 use Rattle.sizes.specs.declared.Sizes.{Sizes}
-use Rattle.table_calls.specs.TableCalls.{cellsFit, TableCall, DifferenceCall, SumCall}
+use Rattle.table_calls.specs.TableCalls.{cellsFit}
 use Rattle.cells.specs.Cells.{shortSlice, badCells, cellsRefusal}
 use Rattle.file_tables.specs.FileTables.{tableRefusal}
 use Rattle.callers.specs.SaidInC.{Says, boundRefusal, SaidInC}
@@ -91,20 +89,20 @@ plain-pair s₁ s₂ =
     (plain-cond (not (sameSizes (sizesOf s₁) (sizesOf s₂))) (plain-by 9)
     (plain-cond (tooLarge (sizesOf s₁)) (plain-by 10) (plain-by 0))))
 
-plain-state : (w : Sizes) (G : ℕ) (z : Session) → Plain (stateRefusal w G z)
+plain-state : (z : Sizes) (G : ℕ) (σ : Session) → Plain (stateRefusal z G σ)
 unfolding stateRefusal
-plain-state w G z =
-    plain-cond (not (sameSizes (z .sizes) w)) (plain-by 101)
-    (plain-cond (misplaced G (z .position) (z .mark)) (plain-by 102)
-    (plain-cond (isClosed (z .mark)) (plain-by 103) (plain-by 0)))
+plain-state z G σ =
+    plain-cond (not (sameSizes (σ .sizes) z)) (plain-by 101)
+    (plain-cond (misplaced G (σ .position) (σ .mark)) (plain-by 102)
+    (plain-cond (isClosed (σ .mark)) (plain-by 103) (plain-by 0)))
 
-plain-continue : (s₁ s₂ : List ℕ) (z : Session) (B len : ℕ) → Plain (continueRefusal s₁ s₂ z B len)
+plain-continue : (s₁ s₂ : List ℕ) (σ : Session) (B len : ℕ) → Plain (continueRefusal s₁ s₂ σ B len)
 unfolding continueRefusal
-plain-continue s₁ s₂ z B len =
+plain-continue s₁ s₂ σ B len =
     plain-cond (eqb B 0) (plain-by 11)
     (plain-cond (isRefusal (pairRefusal s₁ s₂)) (plain-pair s₁ s₂)
     (plain-cond (shortScratch (largerCount s₁ s₂) len) (plain-by 12)
-    (plain-state (sizesOf s₁) (gridSize (sizesOf s₁)) z)))
+    (plain-state (sizesOf s₁) (gridSize (sizesOf s₁)) σ)))
 
 plain-opened : (s₁ s₂ : List ℕ) → Plain (opened s₁ s₂ .refusal)
 unfolding opened
@@ -116,9 +114,9 @@ plain-bound m = plain-cond (within 1 64 m) (plain-by 0) (plain-by 2)
 -- words that begin with a refusal's say it
 says : (q : Refusal) (o rest : List ℕ) → o ≡ refusalWords q ++ rest → Plain q → Says q o
 says q o rest e p =
-    let n : word o 0 ≡ q .number = ap (λ l. word l 0) e in
-    let f : word o 1 ≡ q .file = ap (λ l. word l 1) e in
-    let s : word o 2 ≡ q .step = ap (λ l. word l 2) e in
+    let n : wordAt o 0 ≡ q .number = ap (λ l. wordAt l 0) e in
+    let f : wordAt o 1 ≡ q .file = ap (λ l. wordAt l 1) e in
+    let s : wordAt o 2 ≡ q .step = ap (λ l. wordAt l 2) e in
     record {
       number = n;
       file = f;
@@ -127,7 +125,7 @@ says q o rest e p =
       no-step = λ z. s ∙ ap (λ (r : Refusal). r .step) (p .passes (sym n ∙ z));
     }
 
-bound-begins : (m : ℕ) → boundWords m ≡ refusalWords (boundRefusal m) ++ (word (boundWords m) 3 ∷ [])
+bound-begins : (m : ℕ) → boundWords m ≡ refusalWords (boundRefusal m) ++ (wordAt (boundWords m) 3 ∷ [])
 unfolding boundWords
 bound-begins m =
     ⊎-elim (λ (e : within 1 64 m ≡ true). rw e) (λ (e : within 1 64 m ≡ false). rw e) (true-or-false (within 1 64 m))
@@ -142,16 +140,16 @@ grid-says f o e =
     ]
 
 -- the refusal that a continue call's answer carries
-module _ (f₁ f₂ : List ℕ) (z : Session) (B len : ℕ) where
+module _ (f₁ f₂ : List ℕ) (σ : Session) (B len : ℕ) where
   abbrev R : Refusal
-  R = continueRefusal f₁ f₂ z B len
+  R = continueRefusal f₁ f₂ σ B len
 
-  carried : continued f₁ f₂ z B len .answer .refusal ≡ R
+  carried : continued f₁ f₂ σ B len .answer .refusal ≡ R
   unfolding continued advanced refusedAnswer
   carried =
       ⊎-elim
       (λ (e : isRefusal R ≡ true). rw e)
-      (λ (e : isRefusal R ≡ false). rw e (progress-accepts f₁ f₂ z B _ _ ∙ sym (plain-continue f₁ f₂ z B len .passes (eqb-true (R .number) 0 (not-false _ e)))))
+      (λ (e : isRefusal R ≡ false). rw e (progress-accepts f₁ f₂ σ B _ _ ∙ sym (plain-continue f₁ f₂ σ B len .passes (eqb-true (R .number) 0 (not-false _ e)))))
       (true-or-false (isRefusal R))
 
 -- the words of an answer after its refusal

@@ -11,7 +11,7 @@ use Rattle.file.specs.Accepted.{Accepted}
 use Rattle.file.specs.Check.{maxSteps, faultyAt, faultyStep, operandsRule, argumentRule, headFault, fileNumber}
 use Rattle.fields.specs.File.{sizesOf, stepCount, operation, argument, leftOperand, rightOperand, upperHalf}
 use Rattle.file.proofs.Cases.{head-0, step-0, faultless, rule-input, rule-constant, rule-operands}
-use Rattle.file.proofs.Number.{refused-none, refusal-number}
+use Rattle.file.proofs.Number.{refused-sound, refusal-number}
 use Rattle.ranges.proofs.Search.{first-absent, every-of}
 use Rattle.sizes.specs.Sizes.{within, maxInputs, badOutput, badInputs, badWidths, widthRule}
 use Rattle.sizes.specs.declared.Refusal.{Refusal}
@@ -72,4 +72,4 @@ module _ (s : List ℕ) (a : Accepted s) where
   pub number-0 : fileNumber s ≡ 0
   number-0 =
       sym (refusal-number s 1)
-      ∙ ap (λ (r : Refusal). r .number) (sym (refused-none s head-passes 1 (omega (arith, none-faulty))))
+      ∙ ap (λ (r : Refusal). r .number) (sym (refused-sound s head-passes 1 (omega (arith, none-faulty))))

@@ -2,9 +2,9 @@
 use mathlib.Core.Bool.{Bool, true, false, _&&_, and-eq-true-iff}
 use mathlib.Core.List.{List}
 use mathlib.Core.Path.{_≡_, refl}
-use Prim.Native.Nat.{ℕ, _≤_}
+use Prim.Native.Nat.{ℕ}
 use native.Mathlib.Omega.{arith}
-use lib.Dec.{leb, eqb}
+use lib.Dec.{leb}
 use lib.ListN.{length}
 use borrow.Author.Tests.{leb-true, le-leb, eqb-true, eq-eqb}
 use Rattle.layouts.specs.Layout.{has, returned}
@@ -29,42 +29,42 @@ takes r false P e f g =
 takes-out : (n : ℕ) (o : List ℕ) (r : ℕ) → r ≡ returned (has n o) → Takes r (length o ≡ n)
 takes-out n o r e = takes r (has n o) (length o ≡ n) e (eqb-true (length o) n) (eq-eqb (length o) n)
 
-module _ (z o : List ℕ) where
-  cells-told : cellsFit z o ≡ true → CellsLaid z o
+module _ (w o : List ℕ) where
+  cells-told : cellsFit w o ≡ true → CellsLaid w o
   unfolding cellsFit
   cells-told e =
-      let p = and-eq-true-iff (has 3 o) (sizesFit z) .0 e in
-      let t = sizes-told z (p .1) in
+      let p = and-eq-true-iff (has 3 o) (sizesFit w) .0 e in
+      let t = sizes-told w (p .1) in
       record { sizes = t .long; small = t .bytes .small; out = eqb-true (length o) 3 (p .0) }
 
-  cells-fit : CellsLaid z o → cellsFit z o ≡ true
+  cells-fit : CellsLaid w o → cellsFit w o ≡ true
   unfolding cellsFit
   cells-fit c =
       rw (eq-eqb (length o) 3 (c .out))
-      (sizes-fit z (record { long = c .sizes; bytes = record { long = omega (arith, c .sizes); small = c .small } }))
+      (sizes-fit w (record { long = c .sizes; bytes = record { long = omega (arith, c .sizes); small = c .small } }))
 
-  open-told : openFits z o ≡ true → OpenLaid z o
+  open-told : openFits w o ≡ true → OpenLaid w o
   unfolding openFits
   open-told e =
-      let p = and-eq-true-iff (has 12 z) (has 3 o) .0 e in
-      record { session = eqb-true (length z) 12 (p .0); out = eqb-true (length o) 3 (p .1) }
+      let p = and-eq-true-iff (has 12 w) (has 3 o) .0 e in
+      record { session = eqb-true (length w) 12 (p .0); out = eqb-true (length o) 3 (p .1) }
 
-  open-fits : OpenLaid z o → openFits z o ≡ true
+  open-fits : OpenLaid w o → openFits w o ≡ true
   unfolding openFits
-  open-fits c = rw (eq-eqb (length z) 12 (c .session)) (eq-eqb (length o) 3 (c .out))
+  open-fits c = rw (eq-eqb (length w) 12 (c .session)) (eq-eqb (length o) 3 (c .out))
 
-  continue-told : continueFits z o ≡ true → ContinueLaid z o
+  continue-told : continueFits w o ≡ true → ContinueLaid w o
   unfolding continueFits
   continue-told e =
-      let p = and-eq-true-iff (has 15 o) (sessionFits z) .0 e in
-      let t = session-told z (p .1) in
+      let p = and-eq-true-iff (has 15 o) (sessionFits w) .0 e in
+      let t = session-told w (p .1) in
       record { session = t .long; small = t .bytes .small; mark = t .mark; answer = eqb-true (length o) 15 (p .0) }
 
-  continue-fits : ContinueLaid z o → continueFits z o ≡ true
+  continue-fits : ContinueLaid w o → continueFits w o ≡ true
   unfolding continueFits
   continue-fits c =
       rw (eq-eqb (length o) 15 (c .answer))
-      (session-fits z
+      (session-fits w
       (record { long = c .session; bytes = record { long = omega (arith, c .session); small = c .small }; mark = c .mark }))
 
 module _ (a t o : List ℕ) where

@@ -26,7 +26,7 @@
 --     scratch      the first N scratch entries are 0, and the others as at entry
 --   Continued f₁ f₂ s s′ of corkbingo_continue, where the number word is 0:
 --     scratch      the first scratch entries, as many as the larger N of the two files, are 0, and the others as at entry
---   Written z w y y′ q′  a call is accepted with the answer q′; the first G entries of the slice y are then the list w, and the others as at entry
+--   CellsWritten z w y y′ q′  a call is accepted with the answer q′; the first G entries of the slice y are then the list w, and the others as at entry
 -- Demand 2, of two calls of which the second reads what an accepted first one wrote, and lends a slice with room for G entries:
 --   SumOfTableInC        corkbingo_sum of what corkbingo_table wrote, with the file's sizes as words, writes the file's outputs on the grid
 --   DifferenceOfSumInC   corkbingo_difference of what corkbingo_sum wrote writes the first G entries that were summed
@@ -46,7 +46,7 @@ use Rattle.fields.specs.File.{sizesOf, stepCount}
 use Rattle.file_calls.specs.FileCalls.{CheckCall, OperationsCall, EvaluateCall}
 use Rattle.grid.specs.Grid.{axesOf, gridSize}
 use Rattle.grid_calls.specs.GridCalls.{BoundCall, GridCall}
-use Rattle.layouts.specs.Lengths.{word}
+use Rattle.layouts.specs.Lengths.{wordAt}
 use Rattle.layouts.specs.SizeWords.{sizeWords, sizesFrom}
 use Rattle.session_calls.specs.SessionCalls.{ContinueCall}
 use Rattle.sizes.specs.declared.Sizes.{Sizes}
@@ -54,12 +54,12 @@ use Rattle.table_calls.specs.TableCalls.{TableCall, DifferenceCall, SumCall}
 use Rattle.file_tables.specs.FileTables.{tableOfFile}
 
 pub record Checked (f o′ : List ℕ) : Type 0 where
-  pub number : word o′ 0 ≡ fileNumber f
-  pub sound : (word o′ 0 ≡ 0) ↔ Accepted f
+  pub number : wordAt o′ 0 ≡ fileNumber f
+  pub sound : (wordAt o′ 0 ≡ 0) ↔ Accepted f
 
 pub record Stretched (f o′ : List ℕ) : Type 0 where
-  pub start : fileNumber f ≡ 0 → word o′ 0 ≡ 12
-  pub count : fileNumber f ≡ 0 → word o′ 1 ≡ stepCount f
+  pub start : fileNumber f ≡ 0 → wordAt o′ 0 ≡ 12
+  pub count : fileNumber f ≡ 0 → wordAt o′ 1 ≡ stepCount f
   pub none : ¬ (fileNumber f ≡ 0) → o′ ≡ 0 ∷ 0 ∷ []
 
 -- m is an output word length
@@ -68,19 +68,19 @@ pub record From1To64 (m : ℕ) : Type 0 where
   pub high : m ≤ 64
 
 pub record Bounded (m : ℕ) (o′ : List ℕ) : Type 0 where
-  pub range : (word o′ 0 ≡ 0) ↔ From1To64 m
-  pub least : word o′ 0 ≡ 0 → IsBound m (word o′ 3)
+  pub range : (wordAt o′ 0 ≡ 0) ↔ From1To64 m
+  pub least : wordAt o′ 0 ≡ 0 → IsBound m (wordAt o′ 3)
   pub outside : ¬ From1To64 m → o′ ≡ 2 ∷ 0 ∷ 0 ∷ 0 ∷ []
 
 pub record Gridded (f o′ : List ℕ) : Type 0 where
-  pub number : word o′ 0 ≡ fileNumber f
-  pub axes : word o′ 0 ≡ 0 → take (sizesOf f .d) (drop 3 o′) ≡ axesOf (sizesOf f)
-  pub others : word o′ 0 ≡ 0 → (i : ℕ) → sizesOf f .d ≤ i → i < 8 → word o′ (3 + i) ≡ 0
-  pub size : word o′ 0 ≡ 0 → word o′ 11 ≡ gridSize (sizesOf f)
-  pub none : ¬ (word o′ 0 ≡ 0) → drop 3 o′ ≡ replicate 9 0
+  pub number : wordAt o′ 0 ≡ fileNumber f
+  pub axes : wordAt o′ 0 ≡ 0 → take (sizesOf f .d) (drop 3 o′) ≡ axesOf (sizesOf f)
+  pub others : wordAt o′ 0 ≡ 0 → (i : ℕ) → sizesOf f .d ≤ i → i < 8 → wordAt o′ (3 + i) ≡ 0
+  pub size : wordAt o′ 0 ≡ 0 → wordAt o′ 11 ≡ gridSize (sizesOf f)
+  pub none : ¬ (wordAt o′ 0 ≡ 0) → drop 3 o′ ≡ replicate 9 0
 
 pub record Evaluated (f x s s′ o′ : List ℕ) : Type 0 where
-  pub output : word o′ 3 ≡ outputOf f x
+  pub output : wordAt o′ 3 ≡ outputOf f x
   pub scratch : s′ ≡ replicate (stepCount f) 0 ++ drop (stepCount f) s
 
 pub record Tabled (f s t s′ t′ : List ℕ) : Type 0 where
@@ -90,39 +90,39 @@ pub record Tabled (f s t s′ t′ : List ℕ) : Type 0 where
 pub record Continued (f₁ f₂ s s′ : List ℕ) : Type 0 where
   pub scratch : s′ ≡ replicate (largerCount f₁ f₂) 0 ++ drop (largerCount f₁ f₂) s
 
-pub record Written (z : Sizes) (w y y′ q′ : List ℕ) : Type 0 where
-  pub number : word q′ 0 ≡ 0
+pub record CellsWritten (z : Sizes) (w y y′ q′ : List ℕ) : Type 0 where
+  pub number : wordAt q′ 0 ≡ 0
   pub entries : y′ ≡ w ++ drop (gridSize z) y
 
 abbrev pub SumOfTableInC : Type 0
 SumOfTableInC =
     (f s t o s′ t′ o′ : List ℕ) →
     TableCall f s t o 1 s′ t′ o′ →
-    word o′ 0 ≡ 0 →
+    wordAt o′ 0 ≡ 0 →
     (y q y′ q′ : List ℕ) →
     SumCall (sizeWords (sizesOf f)) t′ y q 1 y′ q′ →
     gridSize (sizesOf f) ≤ length y →
-    Written (sizesOf f) (listed (axesOf (sizesOf f)) (outputOf f)) y y′ q′
+    CellsWritten (sizesOf f) (listed (axesOf (sizesOf f)) (outputOf f)) y y′ q′
 
 abbrev pub DifferenceOfSumInC : Type 0
 DifferenceOfSumInC =
     (z t y o y′ o′ : List ℕ) →
     SumCall z t y o 1 y′ o′ →
-    word o′ 0 ≡ 0 →
+    wordAt o′ 0 ≡ 0 →
     (u q u′ q′ : List ℕ) →
     DifferenceCall z y′ u q 1 u′ q′ →
     gridSize (sizesFrom z) ≤ length u →
-    Written (sizesFrom z) (take (gridSize (sizesFrom z)) t) u u′ q′
+    CellsWritten (sizesFrom z) (take (gridSize (sizesFrom z)) t) u u′ q′
 
 abbrev pub SumOfDifferenceInC : Type 0
 SumOfDifferenceInC =
     (z y t o t′ o′ : List ℕ) →
     DifferenceCall z y t o 1 t′ o′ →
-    word o′ 0 ≡ 0 →
+    wordAt o′ 0 ≡ 0 →
     (u q u′ q′ : List ℕ) →
     SumCall z t′ u q 1 u′ q′ →
     gridSize (sizesFrom z) ≤ length u →
-    Written (sizesFrom z) (take (gridSize (sizesFrom z)) y) u u′ q′
+    CellsWritten (sizesFrom z) (take (gridSize (sizesFrom z)) y) u u′ q′
 
 pub record AcceptedInC : Type 0 where
   pub checking : (f o o′ : List ℕ) → CheckCall f o 1 o′ → Checked f o′
@@ -130,11 +130,11 @@ pub record AcceptedInC : Type 0 where
   pub bound : (m : ℕ) (o o′ : List ℕ) → BoundCall m o 1 o′ → Bounded m o′
   pub grid : (f o o′ : List ℕ) → GridCall f o 1 o′ → Gridded f o′
   pub evaluating :
-      (f x s o s′ o′ : List ℕ) → EvaluateCall f x s o 1 s′ o′ → word o′ 0 ≡ 0 → Evaluated f x s s′ o′
-  pub making : (f s t o s′ t′ o′ : List ℕ) → TableCall f s t o 1 s′ t′ o′ → word o′ 0 ≡ 0 → Tabled f s t s′ t′
+      (f x s o s′ o′ : List ℕ) → EvaluateCall f x s o 1 s′ o′ → wordAt o′ 0 ≡ 0 → Evaluated f x s s′ o′
+  pub making : (f s t o s′ t′ o′ : List ℕ) → TableCall f s t o 1 s′ t′ o′ → wordAt o′ 0 ≡ 0 → Tabled f s t s′ t′
   pub continuing :
       (f₁ f₂ : List ℕ) (B : ℕ) (w s a w′ s′ a′ : List ℕ) →
-      ContinueCall f₁ f₂ B w s a 1 w′ s′ a′ → word a′ 0 ≡ 0 → Continued f₁ f₂ s s′
+      ContinueCall f₁ f₂ B w s a 1 w′ s′ a′ → wordAt a′ 0 ≡ 0 → Continued f₁ f₂ s s′
   pub sumOfTable : SumOfTableInC
   pub differenceOfSum : DifferenceOfSumInC
   pub sumOfDifference : SumOfDifferenceInC

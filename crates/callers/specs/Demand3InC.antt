@@ -28,7 +28,7 @@ use Rattle.fields.specs.File.{sizesOf}
 use Rattle.fields.specs.Steps.{stepsOf}
 use Rattle.grid.specs.Grid.{widthsOf, gridSize}
 use Rattle.layouts.specs.Layout.{has, returned}
-use Rattle.layouts.specs.Lengths.{word, atNumber, atPosition, atMark, atVector, atOutput₁, atOutput₂, answerLength}
+use Rattle.layouts.specs.Lengths.{wordAt, atNumber, atPosition, atMark, atVector, atOutput₁, atOutput₂, answerLength}
 use Rattle.session_calls.specs.SessionCalls.{OpenCall}
 use Rattle.sessions.specs.Demand3.{stop, StopInRange, stopVector, FullWidth}
 use Rattle.sizes.specs.Sizes.{maxInputs}
@@ -39,17 +39,17 @@ pub record ShowsFirstInC (f₁ f₂ : List ℕ) (c : Made) : Type 0 where
   pub place : stop f₁ f₂ - 1 < gridSize (sizesOf f₁)
   pub first : IsFirst (sizesOf f₁ .m) (widthsOf (sizesOf f₁)) (stepsOf f₁) (stepsOf f₂) (stopVector f₁ f₂)
   pub vector : take (sizesOf f₁ .d) (drop atVector (c .answer′)) ≡ stopVector f₁ f₂
-  pub others : (i : ℕ) → sizesOf f₁ .d ≤ i → i < maxInputs → word (c .answer′) (atVector + i) ≡ 0
-  pub output₁ : word (c .answer′) atOutput₁ ≡ outputOf f₁ (stopVector f₁ f₂)
-  pub output₂ : word (c .answer′) atOutput₂ ≡ outputOf f₂ (stopVector f₁ f₂)
+  pub others : (i : ℕ) → sizesOf f₁ .d ≤ i → i < maxInputs → wordAt (c .answer′) (atVector + i) ≡ 0
+  pub output₁ : wordAt (c .answer′) atOutput₁ ≡ outputOf f₁ (stopVector f₁ f₂)
+  pub output₂ : wordAt (c .answer′) atOutput₂ ≡ outputOf f₂ (stopVector f₁ f₂)
 
 pub record SettledInC (f₁ f₂ : List ℕ) (c : Made) : Type 0 where
   pub equivalent : (kind c ≡ 2) ↔ ((x : List ℕ) → FullWidth f₁ x → outputOf f₁ x ≡ outputOf f₂ x)
   pub differs : kind c ≡ 3 → ShowsFirstInC f₁ f₂ c
 
 pub record MarkedInC (c : Made) (w : List ℕ) : Type 0 where
-  pub equal : kind c ≡ 2 → word w atMark ≡ 1
-  pub differ : kind c ≡ 3 → word w atMark ≡ 2
+  pub equal : kind c ≡ 2 → wordAt w atMark ≡ 1
+  pub differ : kind c ≡ 3 → wordAt w atMark ≡ 2
 
 pub record LaterInC (c : Made) : Type 0 where
   pub refused : c .result ≡ 1 → IsRefused c
@@ -67,7 +67,7 @@ pub record FinishedInC (f₁ f₂ w : List ℕ) (cs : List Made) : Type 0 where
   pub marked : MarkedInC call (left w cs)
 
 pub record UnfinishedInC (w : List ℕ) (cs : List Made) : Type 0 where
-  pub mark : word (left w cs) atMark ≡ 0
+  pub mark : wordAt (left w cs) atMark ≡ 0
   pub silent : Each (λ c. ¬ GivesVerdict c) cs
 
 pub record WholeInC (f₁ f₂ w : List ℕ) (cs : List Made) : Type 0 where
@@ -81,7 +81,7 @@ pub record WholeInC (f₁ f₂ w : List ℕ) (cs : List Made) : Type 0 where
       IsRefused c ↔
       ((c .budget ≡ 0) ⊎ ((length (c .scratch) < largerCount f₁ f₂) ⊎ (stop f₁ f₂ ≤ budgets before)))
   pub run : runs cs ≡ min (budgets cs) (stop f₁ f₂)
-  pub position : word (left w cs) atPosition ≡ min (budgets cs) (stop f₁ f₂)
+  pub position : wordAt (left w cs) atPosition ≡ min (budgets cs) (stop f₁ f₂)
   pub unfinished : budgets cs < stop f₁ f₂ → UnfinishedInC w cs
   pub finished : stop f₁ f₂ ≤ budgets cs → FinishedInC f₁ f₂ w cs
 
@@ -89,7 +89,7 @@ abbrev pub Demand3InC : Type 0
 Demand3InC =
     (f₁ f₂ w₀ o w o′ : List ℕ) →
     OpenCall f₁ f₂ w₀ o 1 w o′ →
-    word o′ atNumber ≡ 0 →
+    wordAt o′ atNumber ≡ 0 →
     (cs : List Made) →
     Chain w cs →
     Each (Allowed f₁ f₂) cs →

@@ -17,7 +17,7 @@ use mathlib.Core.Logic.{_⊎_}
 use mathlib.Core.Path.{_≡_}
 use Prim.Native.Nat.{ℕ, _+_}
 use lib.Dec.{eqb}
-use Rattle.layouts.specs.Lengths.{word, atNumber, atKind, atRun}
+use Rattle.layouts.specs.Lengths.{wordAt, atNumber, atKind, atRun}
 use Rattle.session_calls.specs.SessionCalls.{ContinueCall}
 use Rattle.callers.specs.RefusedInC.{Refused}
 
@@ -34,13 +34,13 @@ pub record Made : Type 0 where
   pub answer′ : List ℕ
 
 abbrev pub number : Made → ℕ
-number c = word (c .answer′) atNumber
+number c = wordAt (c .answer′) atNumber
 
 abbrev pub kind : Made → ℕ
-kind c = word (c .answer′) atKind
+kind c = wordAt (c .answer′) atKind
 
 abbrev pub run : Made → ℕ
-run c = word (c .answer′) atRun
+run c = wordAt (c .answer′) atRun
 
 abbrev pub IsCall : Made → Type 0
 IsCall c =

@@ -19,7 +19,7 @@ use Rattle.evaluate.specs.Evaluate.{refusalAt}
 use Rattle.file_calls.specs.FileCalls.{CheckCall, OperationsCall, EvaluateCall, evaluateLength}
 use Rattle.grid_calls.specs.GridCalls.{BoundCall, GridCall}
 use Rattle.layouts.specs.AnswerWords.{refusalWords}
-use Rattle.layouts.specs.Lengths.{word, atNumber, sessionLength, refusalLength, answerLength}
+use Rattle.layouts.specs.Lengths.{wordAt, atNumber, sessionLength, refusalLength, answerLength}
 use Rattle.layouts.specs.SessionWords.{sessionFrom}
 use Rattle.report_calls.specs.ReportCalls.{ReportCall}
 use Rattle.session_calls.specs.SessionCalls.{OpenCall, ContinueCall}
@@ -28,7 +28,7 @@ use Rattle.table_calls.specs.TableCalls.{TableCall, DifferenceCall, SumCall}
 
 pub record Refused (r : ℕ) (o : List ℕ) : Type 0 where
   pub laid : r ≡ 1
-  pub number : ¬ (word o atNumber ≡ 0)
+  pub number : ¬ (wordAt o atNumber ≡ 0)
 
 abbrev pub NotAccepted : ℕ → List ℕ → Type 0
 NotAccepted r o = (r ≡ 0) ⊎ Refused r o

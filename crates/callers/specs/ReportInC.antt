@@ -20,7 +20,7 @@ use mathlib.Core.Path.{_≡_}
 use Prim.Native.Nat.{ℕ, _<_}
 use lib.ListN.{length, take, drop}
 use Rattle.fields.specs.File.{sizesOf}
-use Rattle.layouts.specs.Lengths.{word, atNumber}
+use Rattle.layouts.specs.Lengths.{wordAt, atNumber}
 use Rattle.printed.specs.Claims.{differWords, ThreeLines, Refuses}
 use Rattle.printed.specs.Report.{printed}
 use Rattle.text.specs.Text.{ascii, wordsOf}
@@ -37,7 +37,7 @@ abbrev pub ReportInC : Type 0
 ReportInC =
     (f₁ f₂ w₀ o w o′ : List ℕ) →
     OpenCall f₁ f₂ w₀ o 1 w o′ →
-    word o′ atNumber ≡ 0 →
+    wordAt o′ atNumber ≡ 0 →
     (cs : List Made) →
     Chain w cs →
     Each (Allowed f₁ f₂) cs →
@@ -52,7 +52,7 @@ abbrev pub RefusedReportInC : Type 0
 RefusedReportInC =
     (f₁ f₂ w₀ o w o′ : List ℕ) →
     OpenCall f₁ f₂ w₀ o 1 w o′ →
-    ¬ (word o′ atNumber ≡ 0) →
+    ¬ (wordAt o′ atNumber ≡ 0) →
     (B : ℕ) (s a w′ s′ a′ : List ℕ) →
     ContinueCall f₁ f₂ B w s a 1 w′ s′ a′ →
     0 < B →
@@ -74,8 +74,8 @@ abbrev pub RefusedTextInC : Type 0
 RefusedTextInC =
     (f₁ f₂ a : List ℕ) (n : ℕ) (t l t′ l′ : List ℕ) →
     ReportCall f₁ f₂ a n t l 1 t′ l′ →
-    word a 3 ≡ 0 →
-    Stands (Refuses (record { number = word a 0; file = word a 1; step = word a 2 })) t t′ l′
+    wordAt a 3 ≡ 0 →
+    Stands (Refuses (record { number = wordAt a 0; file = wordAt a 1; step = wordAt a 2 })) t t′ l′
 
 pub record ShowsWords (f₁ a : List ℕ) (n : ℕ) (text : List ℕ) : Type 0 where
   -- the line of the verdict
@@ -83,29 +83,29 @@ pub record ShowsWords (f₁ a : List ℕ) (n : ℕ) (text : List ℕ) : Type 0 w
   -- it stands between the grid and n
   pub lines : ThreeLines f₁ n verdict text
   -- that one word where the kind word is 2
-  pub equivalent : word a 3 ≡ 2 → verdict ≡ ascii "equivalent"
+  pub equivalent : wordAt a 3 ≡ 2 → verdict ≡ ascii "equivalent"
   -- where it is 3, the first d words of the vector, and the two output words
-  pub differs : word a 3 ≡ 3 → wordsOf verdict ≡ differWords (take (sizesOf f₁ .d) (drop 5 a)) (word a 13) (word a 14)
+  pub differs : wordAt a 3 ≡ 3 → wordsOf verdict ≡ differWords (take (sizesOf f₁ .d) (drop 5 a)) (wordAt a 13) (wordAt a 14)
 
 abbrev pub VerdictTextInC : Type 0
 VerdictTextInC =
     (f₁ f₂ a : List ℕ) (n : ℕ) (t l t′ l′ : List ℕ) →
     ReportCall f₁ f₂ a n t l 1 t′ l′ →
     opened f₁ f₂ .refusal .number ≡ 0 →
-    (word a 3 ≡ 2) ⊎ (word a 3 ≡ 3) →
+    (wordAt a 3 ≡ 2) ⊎ (wordAt a 3 ≡ 3) →
     Stands (ShowsWords f₁ a n) t t′ l′
 
 pub record NoTextInC : Type 0 where
   pub kinds :
       (f₁ f₂ a : List ℕ) (n : ℕ) (t l t′ l′ : List ℕ) →
       ReportCall f₁ f₂ a n t l 1 t′ l′ →
-      ¬ (word a 3 ≡ 0) →
-      ¬ (word a 3 ≡ 2) →
-      ¬ (word a 3 ≡ 3) →
+      ¬ (wordAt a 3 ≡ 0) →
+      ¬ (wordAt a 3 ≡ 2) →
+      ¬ (wordAt a 3 ≡ 3) →
       NoText t t′ l′
   pub unopened :
       (f₁ f₂ a : List ℕ) (n : ℕ) (t l t′ l′ : List ℕ) →
       ReportCall f₁ f₂ a n t l 1 t′ l′ →
       ¬ (opened f₁ f₂ .refusal .number ≡ 0) →
-      (word a 3 ≡ 2) ⊎ (word a 3 ≡ 3) →
+      (wordAt a 3 ≡ 2) ⊎ (wordAt a 3 ≡ 3) →
       NoText t t′ l′

@@ -12,7 +12,7 @@ use Rattle.evaluate.specs.Evaluate.{refusalAt}
 use Rattle.file.specs.Check.{refusalOf}
 use Rattle.file_calls.specs.FileCalls.{CheckCall, EvaluateCall}
 use Rattle.grid_calls.specs.GridCalls.{BoundCall, GridCall}
-use Rattle.layouts.specs.Lengths.{word}
+use Rattle.layouts.specs.Lengths.{wordAt}
 use Rattle.layouts.specs.SessionWords.{sessionFrom}
 use Rattle.layouts.specs.SizeWords.{sizesFrom}
 use Rattle.session_calls.specs.SessionCalls.{OpenCall, ContinueCall}
@@ -24,11 +24,11 @@ use Rattle.cells.specs.Cells.{cellsRefusal}
 use Rattle.file_tables.specs.FileTables.{tableRefusal}
 
 pub record Says (q : Refusal) (o : List ℕ) : Type 0 where
-  pub number : word o 0 ≡ q .number
-  pub file : word o 1 ≡ q .file
-  pub step : word o 2 ≡ q .step
-  pub no-file : word o 0 ≡ 0 → word o 1 ≡ 0
-  pub no-step : word o 0 ≡ 0 → word o 2 ≡ 0
+  pub number : wordAt o 0 ≡ q .number
+  pub file : wordAt o 1 ≡ q .file
+  pub step : wordAt o 2 ≡ q .step
+  pub no-file : wordAt o 0 ≡ 0 → wordAt o 1 ≡ 0
+  pub no-step : wordAt o 0 ≡ 0 → wordAt o 2 ≡ 0
 
 abbrev pub boundRefusal : ℕ → Refusal
 boundRefusal m = cond (within 1 64 m) accepted (refusedBy 2)

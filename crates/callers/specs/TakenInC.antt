@@ -16,7 +16,7 @@ use Prim.Native.Nat.{ℕ, _≤_, _<_}
 use lib.ListN.{length}
 use Rattle.file_calls.specs.FileCalls.{CheckCall, OperationsCall, EvaluateCall}
 use Rattle.grid_calls.specs.GridCalls.{BoundCall, GridCall}
-use Rattle.layouts.specs.Lengths.{word}
+use Rattle.layouts.specs.Lengths.{wordAt}
 use Rattle.report_calls.specs.ReportCalls.{ReportCall}
 use Rattle.session_calls.specs.SessionCalls.{OpenCall, ContinueCall}
 use Rattle.table_calls.specs.TableCalls.{TableCall, DifferenceCall, SumCall}
@@ -26,7 +26,7 @@ pub record Takes (r : ℕ) (P : Type 0) : Type 0 where
   pub otherwise : ¬ P → r ≡ 0
 
 abbrev pub SmallWords : ℕ → List ℕ → Type 0
-SmallWords k w = (i : ℕ) → i < k → word w i < 256
+SmallWords k w = (i : ℕ) → i < k → wordAt w i < 256
 
 pub record CellsLaid (z o : List ℕ) : Type 0 where
   pub sizes : length z ≡ 10
@@ -40,7 +40,7 @@ pub record OpenLaid (w o : List ℕ) : Type 0 where
 pub record ContinueLaid (w a : List ℕ) : Type 0 where
   pub session : length w ≡ 12
   pub small : SmallWords 10 w
-  pub mark : word w 11 ≤ 2
+  pub mark : wordAt w 11 ≤ 2
   pub answer : length a ≡ 15
 
 pub record ReportLaid (a t o : List ℕ) : Type 0 where

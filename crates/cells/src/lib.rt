@@ -1,4 +1,5 @@
-// What differencing and summing refuse: sizes that break their conditions, slices that are too short, and cells that are too large.
+// What differencing and summing refuse: sizes that break their conditions, slices that are too short, and cells that
+// are too large.
 use grid::grid_of;
 use sizes::Refusal;
 use sizes::Sizes;

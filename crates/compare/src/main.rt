@@ -1,6 +1,6 @@
-// The comparing program: compares two datapath files to a verdict and writes the report, in one piece. The files are named by two arguments;
-// where there are none, they are a.dp and b.dp in the current folder. With another count of arguments it says how it is called, and compares
-// nothing.
+// The comparing program: compares two datapath files to a verdict and writes the report, in one piece. The files are
+// named by two arguments; where there are none, they are a.dp and b.dp in the current folder. With another count of
+// arguments it says how it is called, and compares nothing.
 use comparison::compare;
 use fields::HEAD;
 use fields::STEPS;
@@ -10,8 +10,8 @@ use libc::STDOUT_FILENO;
 use reading::none_or_two;
 use report::TEXT_ROOM;
 
-// One byte more than the longest file that is accepted, its head and 9 bytes for each step: a longer file is seen to be longer, and is refused by
-// its length.
+// One byte more than the longest file that is accepted, its head and 9 bytes for each step: a longer file is seen to
+// be longer, and is refused by its length.
 const ROOM: usize = HEAD + 9 * STEPS + 1;
 
 fn main() {

@@ -16,9 +16,9 @@ use Rattle.sessions.specs.declared.Session.{Session}
 use Rattle.text.specs.Writing.{TextWritten}
 
 module _ (f₁ f₂ : List ℕ) where
-  own-allowed : (z : Session) (k : ℕ) → Allowed f₁ f₂ z (replicate k (ownCall f₁ f₂) ++ ownCall f₁ f₂ ∷ [])
-  own-allowed z zero = (inl (record { first = refl; second = refl }), tt)
-  own-allowed z (suc k) = (inl (record { first = refl; second = refl }), own-allowed (answerTo z (ownCall f₁ f₂) .session) k)
+  own-allowed : (σ : Session) (k : ℕ) → Allowed f₁ f₂ σ (replicate k (ownCall f₁ f₂) ++ ownCall f₁ f₂ ∷ [])
+  own-allowed σ zero = (inl (record { first = refl; second = refl }), tt)
+  own-allowed σ (suc k) = (inl (record { first = refl; second = refl }), own-allowed (answerTo σ (ownCall f₁ f₂) .session) k)
 
   pub concluded-text :
       opened f₁ f₂ .refusal .number ≡ 0 → (a : Answer) (n : ℕ) → Concluded f₁ f₂ a n → reportOf f₁ f₂ a n ≡ printed f₁ f₂

@@ -12,10 +12,10 @@ use Rattle.sessions.specs.declared.Session.{Session}
 use Rattle.sessions.proofs.Calls.{session-snoc, run-snoc}
 use Rattle.conclusion.specs.Conclusion.{ownCall, Concluded}
 
--- the program's own calls have led to the session z, and ran S vectors
-pub record Trail (f₁ f₂ : List ℕ) (S : ℕ) (z : Session) : Type 0 where
+-- the program's own calls have led to the session σ, and ran S vectors
+pub record Trail (f₁ f₂ : List ℕ) (S : ℕ) (σ : Session) : Type 0 where
   pub calls : ℕ
-  pub session : z ≡ sessionAfter (start f₁ f₂) (replicate calls (ownCall f₁ f₂))
+  pub session : σ ≡ sessionAfter (start f₁ f₂) (replicate calls (ownCall f₁ f₂))
   pub run : S ≡ vectorsRun (answers (start f₁ f₂) (replicate calls (ownCall f₁ f₂)))
 
 replicate-snoc : {A : Type 0} (k : ℕ) (a : A) → replicate (suc k) a ≡ replicate k a ++ a ∷ []
@@ -27,7 +27,7 @@ module _ (f₁ f₂ : List ℕ) where
   unfolding sessionAfter answers vectorsRun
   trail-start = record { calls = 0; session = refl; run = refl }
 
-  module _ (S : ℕ) (z : Session) (t : Trail f₁ f₂ S z) (r : Continued) (e : r ≡ answerTo z (ownCall f₁ f₂)) where
+  module _ (S : ℕ) (σ : Session) (t : Trail f₁ f₂ S σ) (r : Continued) (e : r ≡ answerTo σ (ownCall f₁ f₂)) where
     abbrev own : Call
     own = ownCall f₁ f₂
 

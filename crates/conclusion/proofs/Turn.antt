@@ -14,17 +14,18 @@ use Rattle.grid.specs.Grid.{gridSize}
 use Rattle.ranges.proofs.Search.{true-or-false}
 use Rattle.sessions.specs.Calls.{Call, answerTo, IsVerdict, acceptedBudget}
 use Rattle.sessions.specs.Demand3.{OwnFiles, firstPlace, stop, start}
-use Rattle.sessions.specs.Session.{pairRefusal, isRefusal, opened, continued}
+use Rattle.sessions.specs.Session.{pairRefusal, opened, continued}
 use Rattle.sessions.specs.declared.Continued.{Continued}
 use Rattle.sessions.specs.declared.Mark.the-variants.{Open}
 use Rattle.sessions.specs.declared.Session.{Session}
 use Rattle.sessions.proofs.Pair.{pair-accepted}
 use Rattle.sessions.proofs.Step.{mark-open, mark-differ, mark-equal, At, Stepped, own-refused, call-step}
 use Rattle.sessions.proofs.Verdict.{stopped, given}
+use Rattle.sizes.specs.Sizes.{isRefusal}
 
--- S vectors have led to the session z, and the stop is not reached
-pub record Under (f₁ f₂ : List ℕ) (S : ℕ) (z : Session) : Type 0 where
-  pub at : At f₁ f₂ S z
+-- S vectors have led to the session σ, and the stop is not reached
+pub record Under (f₁ f₂ : List ℕ) (S : ℕ) (σ : Session) : Type 0 where
+  pub at : At f₁ f₂ S σ
   pub below : S < stop f₁ f₂
 
 -- what comes of a call after S vectors that is answered r
@@ -40,44 +41,44 @@ module _ (f₁ f₂ : List ℕ) (accepted : opened f₁ f₂ .refusal .number �
   pair : isRefusal (pairRefusal f₁ f₂) ≡ false
   pair = pair-accepted f₁ f₂ accepted
 
-  stop-above : 0 < D
-  stop-above = stopped f₁ f₂ pair .low
+  stop-least : 0 < D
+  stop-least = stopped f₁ f₂ pair .low
 
   pub under-start : Under f₁ f₂ 0 (start f₁ f₂)
   unfolding opened
   under-start =
       rw pair
       (record {
-        at = record { sizes = refl; position = omega arith; mark = sym (mark-open f₁ f₂ 0 stop-above) };
-        below = stop-above;
+        at = record { sizes = refl; position = omega arith; mark = sym (mark-open f₁ f₂ 0 stop-least) };
+        below = stop-least;
       })
 
-  module _ (S : ℕ) (z : Session) (u : Under f₁ f₂ S z) (B len : ℕ) (b : 0 < B) (room : largerCount f₁ f₂ ≤ len) where
+  module _ (S : ℕ) (σ : Session) (u : Under f₁ f₂ S σ) (B len : ℕ) (b : 0 < B) (room : largerCount f₁ f₂ ≤ len) where
     abbrev call : Call
     call = record { file₁ = f₁; file₂ = f₂; budget = B; scratch = len }
 
     own : OwnFiles f₁ f₂ call
     own = record { first = refl; second = refl }
 
-    accepts : isRefusal (answerTo z call .answer .refusal) ≡ false
+    accepts : isRefusal (answerTo σ call .answer .refusal) ≡ false
     accepts =
         ⊎-elim
-        (λ (e : isRefusal (answerTo z call .answer .refusal) ≡ true).
+        (λ (e : isRefusal (answerTo σ call .answer .refusal) ≡ true).
         absurd
         (⊎-elim
         (λ (k : B ≡ 0). omega arith)
         (⊎-elim (λ (k : len < largerCount f₁ f₂). omega arith) (λ (k : D ≤ S). omega (arith, u .below)))
-        (own-refused f₁ f₂ S z (u .at) pair call own .0 e)))
+        (own-refused f₁ f₂ S σ (u .at) pair call own .0 e)))
         (λ e. e)
-        (true-or-false (isRefusal (answerTo z call .answer .refusal)))
+        (true-or-false (isRefusal (answerTo σ call .answer .refusal)))
 
-    stepped : Stepped f₁ f₂ S B (continued f₁ f₂ z B len)
+    stepped : Stepped f₁ f₂ S B (continued f₁ f₂ σ B len)
     unfolding answerTo acceptedBudget
-    stepped = rw accepts at (call-step f₁ f₂ S z (u .at) pair call (inl own))
+    stepped = rw accepts at (call-step f₁ f₂ S σ (u .at) pair call (inl own))
 
     -- at the stop the session is closed
-    open-below : continued f₁ f₂ z B len .session .mark ≡ Open → S + B < D
-    open-below e =
+    open-before-stop : continued f₁ f₂ σ B len .session .mark ≡ Open → S + B < D
+    open-before-stop e =
         elim (decLt (S + B) D) [
           | yes l ↦ l
           | no n ↦
@@ -94,20 +95,20 @@ module _ (f₁ f₂ : List ℕ) (accepted : opened f₁ f₂ .refusal .number �
               ])
         ]
 
-    closed-above : ¬ (continued f₁ f₂ z B len .session .mark ≡ Open) → D ≤ S + B
-    closed-above n =
+    closed-from-stop : ¬ (continued f₁ f₂ σ B len .session .mark ≡ Open) → D ≤ S + B
+    closed-from-stop n =
         elim (decLt (S + B) D) [ yes l ↦ absurd (n (stepped .next .mark ∙ mark-open f₁ f₂ (S + B) l)) | no k ↦ omega arith ]
 
-    pub turned : Turned f₁ f₂ S (continued f₁ f₂ z B len)
+    pub turned : Turned f₁ f₂ S (continued f₁ f₂ σ B len)
     turned =
         let l = u .below in
         record {
           counted = omega (arith, stepped .run, stepped .next .position);
           onward = λ e.
-              let h = open-below e in
-              let n : S + continued f₁ f₂ z B len .answer .run ≡ S + B = omega (arith, stepped .run) in
+              let h = open-before-stop e in
+              let n : S + continued f₁ f₂ σ B len .answer .run ≡ S + B = omega (arith, stepped .run) in
               (record { at = rw n (stepped .next); below = omega arith }, omega arith);
           finished = λ e.
-              let h = closed-above e in
+              let h = closed-from-stop e in
               given f₁ f₂ _ (stepped .verdict l h);
         }

@@ -18,8 +18,8 @@ pub struct Conclusion {
     pub run: u64,
 }
 
-// Continues the session that opening two files gave, call after call, to the verdict. Answers the answer that gives it, and the vectors run over
-// all calls.
+// Continues the session that opening two files gave, call after call, to the verdict. Answers the answer that gives
+// it, and the vectors run over all calls.
 pub fn conclude(file1: &[u8], file2: &[u8], session: Session, scratch: &mut [u64]) -> Conclusion
     requires { ⌜ opened (now file1) (now file2) .refusal .number ≡ 0 ⌝ }
     requires { ⌜ session ≡ opened (now file1) (now file2) .session ⌝ }

@@ -22,8 +22,9 @@ ghost use Rattle.plan.specs.Plan.{Planned};
 ghost use Rattle.sessions.specs.Session.{stateRefusal, roomRefusal, filesRefusal, refusedAnswer};
 ghost use Rattle.continuing.specs.Continuing.{Continues};
 
-// What a session is refused by where the files are accepted and there is room: 101, 102, 103, or nothing. The mark is taken apart here: open needs a
-// position below the grid's size, equal the size itself, differ 1 to the size, and only an open session goes on.
+// What a session is refused by where the files are accepted and there is room: 101, 102, 103, or nothing. The mark is
+// taken apart here: open needs a position below the grid's size, equal the size itself, differ 1 to the size, and
+// only an open session goes on.
 fn state_refusal(sizes: Sizes, size: u64, session: Session) -> Refusal
     ensures { λ r. ⌜ r ≡ stateRefusal sizes size session ⌝ }
 {
@@ -62,8 +63,8 @@ fn files_refusal(file1: &[u8], file2: &[u8], budget: u64) -> Refusal
     pair_refusal(file1, file2)
 }
 
-// What a continue call with a scratch slice of `room` entries is refused by where its files and its budget are accepted: 12, 101, 102, 103, or
-// nothing.
+// What a continue call with a scratch slice of `room` entries is refused by where its files and its budget are
+// accepted: 12, 101, 102, 103, or nothing.
 fn room_refusal(file1: &[u8], file2: &[u8], plan: Plan, session: Session, room: usize) -> Refusal
     requires { ⌜ Planned (now file1) (now file2) plan ⌝ }
     ensures { λ r. ⌜ r ≡ roomRefusal (now (file1 .entry)) (now (file2 .entry)) session room ⌝ }
@@ -88,11 +89,12 @@ fn refused_answer(refusal: Refusal) -> Answer
     }
 }
 
-// Continues a session on two files: runs up to `budget` vectors from its position on. Differs: the first vector among these at which the
-// outputs differ is shown with both outputs, and the session is closed. Equivalent: the end of the grid is reached and none differs, and the
-// session is closed. Spent: none of these differs and more remain. Refused under document 01's conditions in the order 11, file 1, file 2,
-// 9, 10, 12, 101, 102, 103, with the session as it was given and no scratch entry touched. After an accepted call the first entries of the
-// scratch slice, as many as the larger N, are zero, and the others untouched.
+// Continues a session on two files: runs up to `budget` vectors from its position on. Differs: the first vector among
+// these at which the outputs differ is shown with both outputs, and the session is closed. Equivalent: the end of the
+// grid is reached and none differs, and the session is closed. Spent: none of these differs and more remain. Refused
+// under document 01's conditions in the order 11, file 1, file 2, 9, 10, 12, 101, 102, 103, with the session as it
+// was given and no scratch entry touched. After an accepted call the first entries of the scratch slice, as many as
+// the larger N, are zero, and the others untouched.
 pub fn continue_session(
     file1: &[u8],
     file2: &[u8],

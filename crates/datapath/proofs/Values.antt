@@ -14,11 +14,11 @@ unfolding values
 length-values ts x zero = refl
 length-values ts x (suc k) = rw (length-append, length-values ts x k) (add-one k)
 
-pub values-more :
+pub values-step :
     (ts : List Step) (x : List ℕ) (k : ℕ) →
     values ts x (k + 1) ≡ values ts x k ++ (stepValue x (values ts x k) (getD ts k (Constant 0)) ∷ [])
 unfolding values
-values-more ts x k = rw add-one
+values-step ts x k = rw add-one
 
 step-entries : (x y : List ℕ) (vs : List ℤ) (t : Step) → ((i : ℕ) → getD x i 0 ≡ getD y i 0) → stepValue x vs t ≡ stepValue y vs t
 unfolding stepValue

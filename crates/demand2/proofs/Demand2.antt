@@ -13,7 +13,7 @@ use Rattle.cells.specs.Cells.{cellsRefusal}
 use Rattle.cells.proofs.Answers.{Fitting, passed, fits, at-0}
 use Rattle.differences.specs.Statement.{Cells}
 use Rattle.differences.specs.Table.{mixedDifference, listed, tableOf, given, sumBelow, summed}
-use Rattle.differences.proofs.Listed.{length-values, getD-values}
+use Rattle.differences.proofs.Listed.{length-tabulate, getD-tabulate}
 use Rattle.differences.proofs.Tables.{sumOfDifferences, differencesOfSum}
 use Rattle.fields.specs.File.{sizesOf}
 use Rattle.fields.specs.Steps.{stepsOf}
@@ -23,7 +23,7 @@ use Rattle.file_tables.proofs.Answers.{made, table-accepted}
 use Rattle.file_tables.proofs.Files.{table-sums}
 use Rattle.grid.specs.Grid.{axesOf, gridSize}
 use Rattle.integers.specs.Modulo.{remainder}
-use Rattle.integers.proofs.Remainder.{remainder-lt}
+use Rattle.integers.proofs.Remainder.{remainder-most}
 use Rattle.places.specs.Places.{size, vectorAt}
 use Rattle.sizes.specs.Sizes.{badOutput, badInputs, badWidths, accepted}
 use Rattle.sizes.specs.declared.Refusal.{Refusal}
@@ -40,13 +40,13 @@ number e = ap (λ (r : Refusal). r .number) e
 cells-listed : (M : ℕ) (us : List ℕ) (f : List ℕ → ℕ) → ((x : List ℕ) → f x < M) → Cells M us (listed us f)
 cells-listed M us f l =
     record {
-      full = length-values (λ p. f (vectorAt us p)) 0 (size us);
-      small = λ p h. rw (getD-values (λ p. f (vectorAt us p)) 0 (size us) 0 p h) (l (vectorAt us (0 + p)));
+      full = length-tabulate (λ p. f (vectorAt us p)) 0 (size us);
+      small = λ p h. rw (getD-tabulate (λ p. f (vectorAt us p)) 0 (size us) 0 p h) (l (vectorAt us (0 + p)));
     }
 
 cells-table : (M : ℕ) → 0 < M → (us : List ℕ) (F : List ℕ → _) → Cells M us (tableOf M us F)
 unfolding tableOf
-cells-table M z us F = cells-listed M us (λ k. remainder (mixedDifference k F) M) (λ k. remainder-lt (mixedDifference k F) M z)
+cells-table M z us F = cells-listed M us (λ k. remainder (mixedDifference k F) M) (λ k. remainder-most (mixedDifference k F) M z)
 
 cells-summed : (M : ℕ) → 0 < M → (us c : List ℕ) → Cells M us (summed M us c)
 unfolding summed

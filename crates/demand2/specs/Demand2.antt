@@ -18,8 +18,8 @@ use Rattle.sizes.specs.declared.Sizes.{Sizes}
 use Rattle.tables.specs.Tables.{differenced, summedUp}
 
 -- the first G entries of a slice are the list w, and the others are those of the slice as it was lent
-abbrev pub Holds : Sizes → List ℕ → List ℕ → List ℕ → Type 0
-Holds z w lent slice = slice ≡ w ++ drop (gridSize z) lent
+abbrev pub HoldsCells : Sizes → List ℕ → List ℕ → List ℕ → Type 0
+HoldsCells z w lent slice = slice ≡ w ++ drop (gridSize z) lent
 
 abbrev pub SumOfMade : Type 0
 SumOfMade =
@@ -28,7 +28,7 @@ SumOfMade =
     let z = sizesOf s in
     let made = madeTable s room table in
     (cellsRefusal z made (length outputs) ≡ accepted) ×
-    Holds z (listed (axesOf z) (outputOf s)) outputs (summedUp z made outputs)
+    HoldsCells z (listed (axesOf z) (outputOf s)) outputs (summedUp z made outputs)
 
 abbrev pub DifferenceOfSum : Type 0
 DifferenceOfSum =
@@ -36,7 +36,7 @@ DifferenceOfSum =
     cellsRefusal z table (length outputs) ≡ accepted → gridSize z ≤ length again →
     let sums = summedUp z table outputs in
     (cellsRefusal z sums (length again) ≡ accepted) ×
-    Holds z (take (gridSize z) table) again (differenced z sums again)
+    HoldsCells z (take (gridSize z) table) again (differenced z sums again)
 
 abbrev pub SumOfDifference : Type 0
 SumOfDifference =
@@ -44,4 +44,4 @@ SumOfDifference =
     cellsRefusal z outputs (length table) ≡ accepted → gridSize z ≤ length again →
     let cells = differenced z outputs table in
     (cellsRefusal z cells (length again) ≡ accepted) ×
-    Holds z (take (gridSize z) outputs) again (summedUp z cells again)
+    HoldsCells z (take (gridSize z) outputs) again (summedUp z cells again)

@@ -16,7 +16,7 @@ use Rattle.fields.proofs.Steps.{steps-at}
 use Rattle.datapath.specs.Steps.{stepValue, values}
 use Rattle.datapath.specs.declared.Step.{Step}
 use Rattle.datapath.specs.declared.Step.the-variants.{Input, Constant, Add, Subtract, Multiply}
-use Rattle.datapath.proofs.Values.{length-values, values-more}
+use Rattle.datapath.proofs.Values.{length-values, values-step}
 use Rattle.dependence.specs.Dependence.{valueAt, Fixed}
 
 -- value i is the same in the list of all values and in that of the first i + 1
@@ -40,16 +40,16 @@ module _ (s x : List ℕ) (k : ℕ) (h : k < stepCount s) where
   unfolding valueAt
   value-before i l = value-stays (stepsOf s) x k i l ∙ sym (value-stays (stepsOf s) x (stepCount s) i (omega arith))
 
-  value-step : valueAt s x k ≡ stepValue x (values (stepsOf s) x k) (stepAt s k)
+  value-of-step : valueAt s x k ≡ stepValue x (values (stepsOf s) x k) (stepAt s k)
   unfolding valueAt
-  value-step =
+  value-of-step =
       value-stays (stepsOf s) x (stepCount s) k h
-      ∙ ap (λ vs. getD vs k (pos 0)) (values-more (stepsOf s) x k)
+      ∙ ap (λ vs. getD vs k (pos 0)) (values-step (stepsOf s) x k)
       ∙ getD-at (values (stepsOf s) x k) _ [] (pos 0) k (length-values (stepsOf s) x k)
       ∙ ap (stepValue x (values (stepsOf s) x k)) (steps-at s k h)
 
   value-of : (t : Step) → t ≡ stepAt s k → valueAt s x k ≡ stepValue x (values (stepsOf s) x k) t
-  value-of t e = value-step ∙ ap (stepValue x (values (stepsOf s) x k)) (sym e)
+  value-of t e = value-of-step ∙ ap (stepValue x (values (stepsOf s) x k)) (sym e)
 
   pub value-input : (i : ℕ) → Input i ≡ stepAt s k → valueAt s x k ≡ pos (getD x i 0)
   unfolding stepValue

@@ -17,8 +17,8 @@ fn either_flagged(flags: &[u64], l: usize, r: usize) -> bool
     flags[r] != 0
 }
 
-// Whether step k may depend on input j: it is that input, or has an operand that may. The flags of the steps before are 0 only where these
-// don't depend on it.
+// Whether step k may depend on input j: it is that input, or has an operand that may. The flags of the steps before
+// are 0 only where these don't depend on it.
 fn may_depend(file: &[u8], n: usize, j: usize, flags: &[u64], k: usize) -> bool
     requires { ⌜ Counted (now file) n ⌝ }
     requires { ⌜ (k < n) × (k ≤ length (now flags)) ⌝ }
@@ -34,7 +34,8 @@ fn may_depend(file: &[u8], n: usize, j: usize, flags: &[u64], k: usize) -> bool
     }
 }
 
-// Lists the steps that may depend on input j, in increasing order, and answers how many they are. The first n flags are overwritten.
+// Lists the steps that may depend on input j, in increasing order, and answers how many they are. The first n flags
+// are overwritten.
 pub fn list_dependent(
     file: &[u8],
     n: usize,

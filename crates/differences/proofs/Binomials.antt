@@ -7,12 +7,12 @@ use native.Mathlib.Decide.{decLt}
 use native.Mathlib.Nat.{suc-sub-suc}
 use native.Mathlib.Omega.{arith}
 use lib.IntN.{ℤ, pos, negsuc, negℤ, _+ℤ_, _*ℤ_, +ℤ-idl, +ℤ-idr, *ℤ-zero, zero-*ℤ}
-use Rattle.integers.proofs.Ring.{sub-push, sub-eq, ring₂, ring₃, *ℤ-idl, *ℤ-left-comm, *ℤ-distribl}
+use Rattle.integers.proofs.Ring.{sub-push, sub-eq, ring₂, ring₃, +ℤ-opposite, *ℤ-idl, *ℤ-left-comm, *ℤ-distribl}
 use Rattle.newton.specs.Difference.{difference, differences}
 use Rattle.differences.specs.Neighbours.{combine, combined}
 use Rattle.differences.specs.Table.{choose}
 use Rattle.differences.specs.Statement.{sign, total, ClosedForm}
-use Rattle.differences.proofs.Neighbours.{opposite, combined-linear, combined-suc}
+use Rattle.differences.proofs.Neighbours.{combined-linear, combined-suc}
 
 choose-past : (n k : ℕ) → n < k → choose n k ≡ 0
 unfolding choose
@@ -56,17 +56,17 @@ pascal n (suc N) h =
         → (a +ℤ b) +ℤ pos (i + j) *ℤ c ≡ (a +ℤ pos j *ℤ c) +ℤ (b +ℤ pos i *ℤ c)
     regroup = ring₃ _ λ m n k l p q i j. simp sub-push (sub-eq _ _ _ _ (omega arith))
 
-weighted-none : (N : ℕ) (h : ℕ → ℤ) → 0 < N → weighted 0 h N ≡ h 0
+weighted-zero : (N : ℕ) (h : ℕ → ℤ) → 0 < N → weighted 0 h N ≡ h 0
 unfolding weighted choose
-weighted-none zero h l = absurd (omega arith)
-weighted-none (suc N) h l =
+weighted-zero zero h l = absurd (omega arith)
+weighted-zero (suc N) h l =
     total-first N (λ (k : ℕ). pos (choose 0 k) *ℤ h k) (λ k. zero-*ℤ (h (suc k))) ∙ *ℤ-idl (h 0)
 
 -- the n-fold sum of neighbours
 pub combined-binomial :
     (n N : ℕ) (f : ℕ → ℤ) → n < N → total (λ (k : ℕ). pos (choose n k) *ℤ f k) N ≡ combined (pos 1) n f 0
 unfolding weighted combined combine
-combined-binomial zero N f l = weighted-none N f l
+combined-binomial zero N f l = weighted-zero N f l
 combined-binomial (suc n) zero f l = absurd (omega arith)
 combined-binomial (suc n) (suc N) f l =
     pascal n N f
@@ -82,7 +82,7 @@ unfolding differences difference combined combine
 differences-combined zero f = refl
 differences-combined (suc k) f =
     differences-combined k (difference f)
-    ∙ ap (combined (negsuc 0) k) (fun-ext λ x. sym (opposite (f (suc x)) (f x)))
+    ∙ ap (combined (negsuc 0) k) (fun-ext λ x. sym (+ℤ-opposite (f (suc x)) (f x)))
 
 -- the terms of the alternating sum for the p-fold difference at x
 term : (ℕ → ℤ) → ℕ → ℕ → ℕ → ℤ
@@ -92,7 +92,7 @@ combined-alternating :
     (p N : ℕ) (f : ℕ → ℤ) (x : ℕ) → p < N → combined (negsuc 0) p f x ≡ weighted p (term f p x) N
 unfolding weighted term sign combined
 combined-alternating zero N f x l =
-    sym (weighted-none N (term f 0 x) l ∙ *ℤ-idl (f (0 - 0 + x)) ∙ ap f (omega arith))
+    sym (weighted-zero N (term f 0 x) l ∙ *ℤ-idl (f (0 - 0 + x)) ∙ ap f (omega arith))
 combined-alternating (suc p) zero f x l = absurd (omega arith)
 combined-alternating (suc p) (suc N) f x l =
     combined-suc (negsuc 0) p f x

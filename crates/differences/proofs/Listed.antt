@@ -1,4 +1,4 @@
--- The laws of `values` and `listed`: their length, their entries, and equality by entries. By induction on the count, and since places and
+-- The laws of `tabulate` and `listed`: their length, their entries, and equality by entries. By induction on the count, and since places and
 -- vectors correspond.
 use mathlib.Core.Path.{_≡_, refl, sym, _∙_, ap, ap₂}
 use mathlib.Core.List.{List, _∷_}
@@ -9,37 +9,37 @@ use lib.ListN.{length, getD}
 use lib.Seq.{ext-getD}
 use Rattle.places.specs.Places.{Below, size, vectorAt, placeOf}
 use Rattle.places.proofs.Places.{oneToOne}
-use Rattle.differences.specs.Table.{values, listed, given}
+use Rattle.differences.specs.Table.{tabulate, listed, given}
 
-pub length-values : {A : Type 0} (f : ℕ → A) (j n : ℕ) → length (values f j n) ≡ n
-unfolding values
-length-values f j zero = refl
-length-values f j (suc n) = ap suc (length-values f (j + 1) n)
+pub length-tabulate : {A : Type 0} (f : ℕ → A) (j n : ℕ) → length (tabulate f j n) ≡ n
+unfolding tabulate
+length-tabulate f j zero = refl
+length-tabulate f j (suc n) = ap suc (length-tabulate f (j + 1) n)
 
-pub getD-values : {A : Type 0} (f : ℕ → A) (j n : ℕ) (d : A) (i : ℕ) → i < n → getD (values f j n) i d ≡ f (j + i)
-unfolding values
-getD-values f j zero d i h = absurd (omega arith)
-getD-values f j (suc n) d zero h = ap f (omega arith)
-getD-values f j (suc n) d (suc i) h = getD-values f (j + 1) n d i (omega arith) ∙ ap f (omega arith)
+pub getD-tabulate : {A : Type 0} (f : ℕ → A) (j n : ℕ) (d : A) (i : ℕ) → i < n → getD (tabulate f j n) i d ≡ f (j + i)
+unfolding tabulate
+getD-tabulate f j zero d i h = absurd (omega arith)
+getD-tabulate f j (suc n) d zero h = ap f (omega arith)
+getD-tabulate f j (suc n) d (suc i) h = getD-tabulate f (j + 1) n d i (omega arith) ∙ ap f (omega arith)
 
 -- a list is known by its length and entries
-pub values-unique :
+pub tabulate-unique :
     {A : Type 0} (f : ℕ → A) (n : ℕ) (d : A) (ys : List A)
-    → length ys ≡ n → ((i : ℕ) → i < n → getD ys i d ≡ f i) → ys ≡ values f 0 n
-values-unique f n d ys e h =
-    ext-getD d ys (values f 0 n) (e ∙ sym (length-values f 0 n))
-    (λ i l. h i (omega arith) ∙ sym (getD-values f 0 n d i (omega arith) ∙ ap f (omega arith)))
+    → length ys ≡ n → ((i : ℕ) → i < n → getD ys i d ≡ f i) → ys ≡ tabulate f 0 n
+tabulate-unique f n d ys e h =
+    ext-getD d ys (tabulate f 0 n) (e ∙ sym (length-tabulate f 0 n))
+    (λ i l. h i (omega arith) ∙ sym (getD-tabulate f 0 n d i (omega arith) ∙ ap f (omega arith)))
 
-values-equal :
-    {A : Type 0} (f g : ℕ → A) (j n : ℕ) → ((i : ℕ) → i < j + n → f i ≡ g i) → values f j n ≡ values g j n
-unfolding values
-values-equal f g j zero h = refl
-values-equal f g j (suc n) h = ap₂ _∷_ (h j (omega arith)) (values-equal f g (j + 1) n (λ i l. h i (omega arith)))
+tabulate-equal :
+    {A : Type 0} (f g : ℕ → A) (j n : ℕ) → ((i : ℕ) → i < j + n → f i ≡ g i) → tabulate f j n ≡ tabulate g j n
+unfolding tabulate
+tabulate-equal f g j zero h = refl
+tabulate-equal f g j (suc n) h = ap₂ _∷_ (h j (omega arith)) (tabulate-equal f g (j + 1) n (λ i l. h i (omega arith)))
 
 pub listed-equal :
     {A : Type 0} (us : List ℕ) (f g : List ℕ → A) → ((x : List ℕ) → Below us x → f x ≡ g x) → listed us f ≡ listed us g
 listed-equal us f g h =
-    values-equal (λ (p : ℕ). f (vectorAt us p)) (λ (p : ℕ). g (vectorAt us p)) 0 (size us)
+    tabulate-equal (λ (p : ℕ). f (vectorAt us p)) (λ (p : ℕ). g (vectorAt us p)) 0 (size us)
     (λ p l. h (vectorAt us p) (oneToOne us .below p (omega arith)))
 
 pub given-listed :
@@ -47,6 +47,6 @@ pub given-listed :
 unfolding given
 given-listed us f x b =
     ap pos
-    (getD-values (λ (p : ℕ). f (vectorAt us p)) 0 (size us) 0 (placeOf us x) (oneToOne us .inside x b)
+    (getD-tabulate (λ (p : ℕ). f (vectorAt us p)) 0 (size us) 0 (placeOf us x) (oneToOne us .inside x b)
     ∙ ap (λ (p : ℕ). f (vectorAt us p)) (omega arith)
     ∙ ap f (oneToOne us .found x b))

@@ -5,9 +5,9 @@ use mathlib.Core.Path.{_≡_, refl, sym, _∙_, ap, fun-ext}
 use mathlib.Core.List.{List, [], _∷_}
 use Prim.Native.Nat.{ℕ, zero, suc, _≤_, _<_}
 use native.Mathlib.Omega.{arith}
-use lib.IntN.{ℤ, negsuc, negℤ, _+ℤ_, _-ℤ_, _*ℤ_}
+use lib.IntN.{ℤ, negℤ, _+ℤ_, _*ℤ_}
 use Rattle.integers.specs.Modulo.{remainder}
-use Rattle.integers.proofs.Ring.{sub-push, sub-eq, ring₂, ring₃, +ℤ-swap, *ℤ-left-comm, *ℤ-distribl}
+use Rattle.integers.proofs.Ring.{sub-push, sub-eq, ring₃, +ℤ-swap, *ℤ-left-comm, *ℤ-distribl}
 use Rattle.integers.proofs.Remainder.{remainder-add, remainder-mul}
 use Rattle.places.specs.Places.{Below}
 use Rattle.differences.specs.Neighbours.{combine, combined, mixed}
@@ -19,9 +19,6 @@ interchange r s a b c d =
     ∙ +ℤ-swap a (r *ℤ b) (s *ℤ c) (s *ℤ (r *ℤ d))
     ∙ ap (λ (z : ℤ). (a +ℤ s *ℤ c) +ℤ (r *ℤ b +ℤ z)) (*ℤ-left-comm s r d)
     ∙ ap (λ (z : ℤ). (a +ℤ s *ℤ c) +ℤ z) (sym (*ℤ-distribl r b (s *ℤ d)))
-
-pub opposite : (a b : ℤ) → a +ℤ negsuc 0 *ℤ b ≡ a -ℤ b
-opposite = ring₂ _ λ m n k l. simp sub-push (sub-eq _ _ _ _ (omega arith))
 
 pub combined-linear :
     (s r : ℤ) (k : ℕ) (f g : ℕ → ℤ) (x : ℕ)

@@ -8,7 +8,7 @@ use native.Mathlib.Omega.{arith}
 use lib.IntN.{ℤ, pos, negsuc}
 use lib.ListN.{getD}
 use Rattle.integers.specs.Modulo.{remainder}
-use Rattle.integers.proofs.Remainder.{remainder-pos, remainder-lt}
+use Rattle.integers.proofs.Remainder.{remainder-pos, remainder-most}
 use Rattle.places.specs.Places.{Below, size, vectorAt, placeOf}
 use Rattle.places.proofs.Places.{oneToOne}
 use Rattle.differences.specs.Neighbours.{combined, mixed}
@@ -17,7 +17,7 @@ use Rattle.differences.specs.Statement.{Cells, SumOfTable, SumOfDifferen
 use Rattle.differences.proofs.Neighbours.{mixed-undo, mixed-remainder}
 use Rattle.differences.proofs.Binomials.{differences-combined}
 use Rattle.differences.proofs.Sums.{sum-mixed}
-use Rattle.differences.proofs.Listed.{values-unique, listed-equal, given-listed}
+use Rattle.differences.proofs.Listed.{tabulate-unique, listed-equal, given-listed}
 
 pub difference-mixed : (ks : List ℕ) (F : List ℕ → ℤ) → mixedDifference ks F ≡ mixed (negsuc 0) ks F
 unfolding mixedDifference mixed
@@ -27,7 +27,7 @@ difference-mixed (k ∷ ks) F =
     ∙ ap (λ (h : ℕ → ℤ). combined (negsuc 0) k h 0) (fun-ext λ t. difference-mixed ks (λ (xs : List ℕ). F (t ∷ xs)))
 
 remainder-twice : (a : ℤ) (M : ℕ) → 0 < M → remainder (pos (remainder a M)) M ≡ remainder a M
-remainder-twice a M z = remainder-pos (remainder a M) M ∙ mod-eq-of-lt (remainder-lt a M z)
+remainder-twice a M z = remainder-pos (remainder a M) M ∙ mod-eq-of-lt (remainder-most a M z)
 
 -- the sum at x, as a remainder
 pub sum-remainder :
@@ -68,7 +68,7 @@ cells-listed :
 unfolding given
 cells-listed M us ys cells f h =
     sym
-    (values-unique (λ (p : ℕ). f (vectorAt us p)) (size us) 0 ys (cells .full)
+    (tabulate-unique (λ (p : ℕ). f (vectorAt us p)) (size us) 0 ys (cells .full)
     (λ p l.
     let s = cells .small p l in
     sym

@@ -1,9 +1,9 @@
 -- Difference tables over a grid with the axes us, and their sums (document 01, 'Output, grid and order'; document 002, definitions IV.1
--- and V.2, proposition 1). A function on vectors stands for a datapath's exact values or for a list of outputs.
+-- and V.2, propositions 1 and 2). A function on vectors stands for a datapath's exact values or for a list of outputs.
 --   mixedDifference ks F   the k-fold forward difference of F at the zero vector: the difference for each input in turn, k_i times
 --   choose n k             the binomial (n choose k)
 --   binomials xs ks        the product of the binomials (x_i choose k_i)
---   values f j n           the list of f at the n numbers from j on
+--   tabulate f j n         the list of f at the n numbers from j on
 --   listed us f            f at every vector of the grid, in the order of their places
 --   tableOf M us F         the difference table of F: cell k holds the k-fold difference at the zero vector, modulo M
 --   given us ys            the function on the grid whose values, in the order of the places, are ys
@@ -31,12 +31,12 @@ binomials [] (k ∷ ks) = 1
 binomials (x ∷ xs) [] = 1
 binomials (x ∷ xs) (k ∷ ks) = choose x k * binomials xs ks
 
-unfoldable pub values : {A : Type 0} → (ℕ → A) → ℕ → ℕ → List A
-values f j zero = []
-values f j (suc n) = f j ∷ values f (j + 1) n
+unfoldable pub tabulate : {A : Type 0} → (ℕ → A) → ℕ → ℕ → List A
+tabulate f j zero = []
+tabulate f j (suc n) = f j ∷ tabulate f (j + 1) n
 
 abbrev pub listed : {A : Type 0} → List ℕ → (List ℕ → A) → List A
-listed us f = values (λ (p : ℕ). f (vectorAt us p)) 0 (size us)
+listed us f = tabulate (λ (p : ℕ). f (vectorAt us p)) 0 (size us)
 
 unfoldable pub tableOf : ℕ → List ℕ → (List ℕ → ℤ) → List ℕ
 tableOf M us F = listed us (λ (k : List ℕ). remainder (mixedDifference k F) M)

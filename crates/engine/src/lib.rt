@@ -4,8 +4,8 @@ use batches::Shape;
 use fields::STEPS;
 use lanes::FEW_LANES;
 use plan::Plan;
+use plan::Span;
 use rows::LANES;
-use spans::Span;
 use spans::by_lines;
 use walk::by_places;
 ghost use mathlib.Core.Path.{_≡_};
@@ -25,8 +25,8 @@ const MIDDLE: usize = 256;
 // The words of the rows of long files: all steps in few lanes.
 const LONG_ROWS: usize = FEW_LANES * STEPS;
 
-// The first place of the span at which the outputs differ, or its end where there is none, in LANES lanes, for short files, which have rows of their own
-// each. The rows are set up here, where lanes are really run.
+// The first place of the span at which the outputs differ, or its end where there is none, in LANES lanes, for short
+// files, which have rows of their own each. The rows are set up here, where lanes are really run.
 fn in_short_lanes(file1: &[u8], file2: &[u8], plan: Plan, span: Span, scratch: &mut [u64]) -> u64
     requires { ⌜ Within (now file1) (now file2) plan span (now scratch) ⌝ }
     requires { ⌜ (plan .n1 ≤ short) × (plan .n2 ≤ short) ⌝ }
@@ -130,8 +130,9 @@ pub fn larger(a: usize, b: usize) -> usize
     if a < b { b } else { a }
 }
 
-// The first place among the `count` from `from` on at which the outputs of two comparable files differ, or the end of these where there is
-// none. Fewer places than lanes are compared one by one, more in lanes. Past the larger N no scratch entry is touched.
+// The first place among the `count` from `from` on at which the outputs of two comparable files differ, or the end of
+// these where there is none. Fewer places than lanes are compared one by one, more in lanes. Past the larger N no
+// scratch entry is touched.
 pub fn first_difference(
     file1: &[u8],
     file2: &[u8],

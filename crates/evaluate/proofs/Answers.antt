@@ -15,7 +15,7 @@ use Rattle.sizes.specs.Sizes.{refusedBy, accepted}
 use Rattle.ranges.proofs.Search.{true-or-false}
 use Rattle.sizes.specs.declared.Refusal.{Refusal}
 use Rattle.sizes.specs.declared.Sizes.{Sizes}
-use Rattle.evaluate.specs.Evaluate.{outputOf, badVector, refusalAt, accepts, evaluatedAt, scratchAfter}
+use Rattle.evaluate.specs.Evaluate.{outputOf, badVector, refusalAt, evaluatedAt, evaluatedScratch}
 
 module _ (s x : List ℕ) (len : ℕ) where
   pub at-file : ¬ (fileNumber s ≡ 0) → refusalAt s x len ≡ refusalOf 1 s
@@ -65,13 +65,13 @@ vector-long z x e = eqb-true (length x) (z .d) (and-eq-true-iff _ _ .0 (not-fals
 module _ (s x scratch : List ℕ) where
   pub answer-refused :
       ¬ (refusalAt s x (length scratch) .number ≡ 0) →
-      (record { refusal = refusalAt s x (length scratch); output = 0 } ≡ evaluatedAt s x (length scratch)) × (scratch ≡ scratchAfter s x scratch)
-  unfolding evaluatedAt scratchAfter accepts
+      (record { refusal = refusalAt s x (length scratch); output = 0 } ≡ evaluatedAt s x (length scratch)) × (scratch ≡ evaluatedScratch s x scratch)
+  unfolding evaluatedAt evaluatedScratch
   answer-refused n = (rw (ne-eqb (refusalAt s x (length scratch) .number) 0 n), rw (ne-eqb (refusalAt s x (length scratch) .number) 0 n))
 
   pub answer-accepted :
       refusalAt s x (length scratch) .number ≡ 0 →
       (record { refusal = refusalAt s x (length scratch); output = outputOf s x } ≡ evaluatedAt s x (length scratch)) ×
-      (replicate (stepCount s) 0 ++ drop (stepCount s) scratch ≡ scratchAfter s x scratch)
-  unfolding evaluatedAt scratchAfter accepts
+      (replicate (stepCount s) 0 ++ drop (stepCount s) scratch ≡ evaluatedScratch s x scratch)
+  unfolding evaluatedAt evaluatedScratch
   answer-accepted e = (rw (eq-eqb (refusalAt s x (length scratch) .number) 0 e), rw (eq-eqb (refusalAt s x (length scratch) .number) 0 e))

@@ -2,7 +2,6 @@
 use mathlib.Core.Path.{_≡_, sym, _∙_, ap, ap₂, subst}
 use mathlib.Core.List.{List, _++_, map}
 use Prim.Native.Nat.{ℕ, _+_, _*_, _-_, _%_, _^_, _<_}
-use native.Mathlib.Nat.{mod-eq-of-lt}
 use native.Mathlib.Omega.{arith}
 use lib.IntN.{ℤ, pos}
 use lib.ListN.{length, getD, take, length-map, List·getD-append, List·getD-map}
@@ -10,20 +9,15 @@ use lib.Seq.{getD-take}
 use Rattle.file.specs.Accepted.{Accepted}
 use Rattle.fields.specs.File.{sizesOf, stepCount}
 use Rattle.fields.specs.Steps.{stepAt, stepsOf}
-use Rattle.fields.proofs.Steps.{steps-length}
+use Rattle.fields.proofs.Steps.{length-steps}
 use Rattle.integers.specs.Modulo.{remainder}
-use Rattle.integers.proofs.Remainder.{remainder-pos}
 use Rattle.datapath.specs.Steps.{stepValue, values, exact, output}
 use Rattle.datapath.specs.declared.Step.{Step}
 use Rattle.datapath.specs.declared.Step.the-variants.{Input, Constant, Add, Subtract, Multiply}
 use Rattle.datapath.proofs.Values.{length-values, values-entries}
 use Rattle.words.specs.Words.{word}
-use Rattle.words.proofs.Congruence.{word-cut, word-add, word-sub, word-mul}
+use Rattle.words.proofs.Congruence.{word-pos, word-cut, word-add, word-sub, word-mul}
 use Rattle.evaluate.specs.Evaluate.{outputOf}
-
--- a natural number that fits is its own word
-word-pos : (a : ℕ) → a < 2 ^ 64 → a ≡ word (pos a)
-word-pos a h = sym (remainder-pos a (2 ^ 64) ∙ mod-eq-of-lt h)
 
 -- an entry of the scratch slice is the word of the value that it holds
 operand-word :
@@ -42,11 +36,11 @@ module _ (s x scratch : List ℕ) (vs : List ℤ) (k r : ℕ) (held : take k scr
 
   pub input-word : (i : ℕ) → Input i ≡ stepAt s k → r ≡ getD x i 0 → r < 2 ^ 64 → Right
   unfolding stepValue
-  input-word i e q h = right (Input i) e (rw (← q) (word-pos r h))
+  input-word i e q h = right (Input i) e (rw (← q) (sym (word-pos r h)))
 
   pub constant-word : Constant r ≡ stepAt s k → r < 2 ^ 64 → Right
   unfolding stepValue
-  constant-word e h = right (Constant r) e (word-pos r h)
+  constant-word e h = right (Constant r) e (sym (word-pos r h))
 
   module _ (i j : ℕ) (left : i < k) (before : j < k) where
     pub sum-word : Add i j ≡ stepAt s k → r ≡ (getD scratch i 0 + getD scratch j 0) % 2 ^ 64 → Right
@@ -82,7 +76,7 @@ output-word s x rest a n e =
     (List·getD-append (map word (values (stepsOf s) x n)) rest 0 (n - 1) (rw (length-map, length-values) (omega (arith, a .countLow)))
     ∙ List·getD-map word (values (stepsOf s) x n) (n - 1) (pos 0))
     ∙ word-cut (getD (values (stepsOf s) x n) (n - 1) (pos 0)) (sizesOf s .m) (a .outputHigh)
-    ∙ ap (λ k. remainder (getD (values (stepsOf s) x k) (k - 1) (pos 0)) (2 ^ sizesOf s .m)) (e ∙ sym (steps-length s))
+    ∙ ap (λ k. remainder (getD (values (stepsOf s) x k) (k - 1) (pos 0)) (2 ^ sizesOf s .m)) (e ∙ sym (length-steps s))
 
 -- the output reads no more of a vector than its entries
 pub output-entries : (s x y : List ℕ) → ((i : ℕ) → getD x i 0 ≡ getD y i 0) → outputOf s x ≡ outputOf s y

@@ -4,7 +4,7 @@
 --   badVector z x         14. the vector is not exactly d long, or some x_i is 2^n_i or more
 --   refusalAt s x len     what evaluating answers first: the file's refusal, 12, 14, or acceptance
 --   evaluatedAt s x len   the whole answer: the refusal and the output, which is 0 in a refusal
---   scratchAfter          the scratch slice afterwards: the first N entries zero where the call is accepted, all untouched where it is refused
+--   evaluatedScratch      the scratch slice afterwards: the first N entries zero where the call is accepted, all untouched where it is refused
 use mathlib.Core.Bool.{Bool, not, cond, _&&_}
 use mathlib.Core.List.{List}
 use Prim.Native.Nat.{ℕ}
@@ -15,7 +15,7 @@ use Rattle.file.specs.Check.{fileNumber, refusalOf}
 use Rattle.fields.specs.File.{sizesOf, stepCount}
 use Rattle.fields.specs.Steps.{stepsOf}
 use Rattle.ranges.specs.Search.{every}
-use Rattle.sizes.specs.Sizes.{refusedBy, accepted}
+use Rattle.sizes.specs.Sizes.{refusedBy, accepted, accepts}
 use Rattle.sizes.specs.declared.Refusal.{Refusal}
 use Rattle.sizes.specs.declared.Sizes.{Sizes}
 use Rattle.slices.specs.Slices.{cleared}
@@ -28,6 +28,7 @@ outputOf s x = output (sizesOf s .m) (stepsOf s) x
 abbrev pub shortScratch : ℕ → ℕ → Bool
 shortScratch n len = ltb len n
 
+-- x_i is in the range of input i
 unfoldable pub inRange : Sizes → List ℕ → ℕ → Bool
 inRange z x i = ltb (getD x i 0) (range (getD (z .widths) i 0))
 
@@ -41,14 +42,10 @@ refusalAt s x len =
     (cond (badVector (sizesOf s) x) (refusedBy 14) accepted))
     (refusalOf 1 s)
 
--- the call is accepted
-unfoldable pub accepts : List ℕ → List ℕ → ℕ → Bool
-accepts s x len = eqb (refusalAt s x len .number) 0
-
 unfoldable pub evaluatedAt : List ℕ → List ℕ → ℕ → Evaluated
 evaluatedAt s x len =
-    record { refusal = refusalAt s x len; output = cond (accepts s x len) (outputOf s x) 0 }
+    record { refusal = refusalAt s x len; output = cond (accepts (refusalAt s x len)) (outputOf s x) 0 }
 
-unfoldable pub scratchAfter : List ℕ → List ℕ → List ℕ → List ℕ
-scratchAfter s x scratch =
-    cond (accepts s x (length scratch)) (cleared (stepCount s) scratch) scratch
+unfoldable pub evaluatedScratch : List ℕ → List ℕ → List ℕ → List ℕ
+evaluatedScratch s x scratch =
+    cond (accepts (refusalAt s x (length scratch))) (cleared (stepCount s) scratch) scratch

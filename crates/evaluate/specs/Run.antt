@@ -1,5 +1,5 @@
 -- What running the steps of an accepted file asks, keeps and promises.
---   wordAt s x k                      the value of step k of the file s at the vector x, modulo 2^64
+--   stepWord s x k                      the value of step k of the file s at the vector x, modulo 2^64
 --   ran s n x scratch                 the scratch slice with the values modulo 2^64 of the first n steps in its front
 --   Ready s n x scratch               the file s is accepted and has n steps, the vector x has a value for each input, and the scratch slice has room
 --   Running s n x scratch k           and its first k entries hold the values modulo 2^64 of the first k steps
@@ -19,11 +19,11 @@ use Rattle.file.specs.Accepted.{Accepted}
 use Rattle.slices.specs.Slices.{KeptPast}
 use Rattle.datapath.specs.Steps.{stepValue, values}
 use Rattle.words.specs.Words.{word}
-use Rattle.evaluate.specs.Evaluate.{outputOf, evaluatedAt, scratchAfter}
+use Rattle.evaluate.specs.Evaluate.{outputOf, evaluatedAt, evaluatedScratch}
 use Rattle.evaluate.specs.declared.Evaluated.{Evaluated}
 
-abbrev pub wordAt : List ℕ → List ℕ → ℕ → ℕ
-wordAt s x k = word (stepValue x (values (stepsOf s) x k) (stepAt s k))
+abbrev pub stepWord : List ℕ → List ℕ → ℕ → ℕ
+stepWord s x k = word (stepValue x (values (stepsOf s) x k) (stepAt s k))
 
 abbrev pub ran : List ℕ → ℕ → List ℕ → List ℕ → List ℕ
 ran s n x scratch = map word (values (stepsOf s) x n) ++ drop n scratch
@@ -45,4 +45,4 @@ pub record OutputAt (s : List ℕ) (n : ℕ) (x before : List ℕ) (r : ℕ) (af
 
 pub record Evaluates (s x before : List ℕ) (r : Evaluated) (after : List ℕ) : Type 0 where
   pub answer : r ≡ evaluatedAt s x (length before)
-  pub scratch : after ≡ scratchAfter s x before
+  pub scratch : after ≡ evaluatedScratch s x before

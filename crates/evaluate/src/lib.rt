@@ -16,7 +16,7 @@ ghost use Prim.Native.Nat.{_≤_, _<_};
 ghost use lib.ListN.{length};
 ghost use Rattle.sizes.specs.Sizes.{maxInputs};
 ghost use Rattle.evaluate.specs.Evaluate.{inRange, badVector, refusalAt};
-ghost use Rattle.evaluate.specs.Run.{wordAt, ran, Ready, Running, OutputAt, Evaluates};
+ghost use Rattle.evaluate.specs.Run.{stepWord, ran, Ready, Running, OutputAt, Evaluates};
 
 // What evaluating answers: the refusal, and the output, which is 0 in a refusal.
 pub struct Evaluated {
@@ -54,11 +54,12 @@ pub fn bad_vector(z: Sizes, vector: &[u64]) -> bool
     false
 }
 
-// The value modulo 2^64 of step k of an accepted file, where the first k scratch entries hold those of the steps before it.
+// The value modulo 2^64 of step k of an accepted file, where the first k scratch entries hold those of the steps
+// before it.
 fn step_word(file: &[u8], n: usize, vector: &[u64], scratch: &[u64], k: usize) -> u64
     requires { ⌜ Running (now file) n (now vector) (now scratch) k ⌝ }
     requires { ⌜ k < n ⌝ }
-    ensures { λ r. ⌜ r ≡ wordAt (now (file .entry)) (now (vector .entry)) k ⌝ }
+    ensures { λ r. ⌜ r ≡ stepWord (now (file .entry)) (now (vector .entry)) k ⌝ }
 {
     let step = step_at(file, n, k);
     match step {
@@ -113,8 +114,9 @@ fn refusal_at(file: &[u8], vector: &[u64], room: usize) -> Refusal
     refused_by(0)
 }
 
-// The output of the file at the vector: the exact value of its last step modulo 2^m. Refused under document 01's conditions 1 to 8, 12
-// and 14, in this order. Afterwards the first N scratch entries are zero and the others untouched; a refused call touches none.
+// The output of the file at the vector: the exact value of its last step modulo 2^m. Refused under document 01's
+// conditions 1 to 8, 12 and 14, in this order. Afterwards the first N scratch entries are zero and the others
+// untouched; a refused call touches none.
 pub fn evaluate(file: &[u8], vector: &[u64], scratch: &mut [u64]) -> Evaluated
     ensures { λ r. ⌜
         Evaluates (now (file .entry)) (now (vector .entry)) (now (scratch .entry)) r (now (scratch .exit))

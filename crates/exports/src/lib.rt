@@ -1,7 +1,8 @@
-// The C interface: every call of the library on pointers, lengths and words. Each returns 1 where its layout is right, as the header gives
-// it, and 0, with nothing touched, where it is not. Sizes are words: m, d and the word lengths; a call given sizes of another length, or with
-// a word that does not fit a byte, returns 0. A session is words: the sizes, position and mark. Where it has another length, a size does not
-// fit a byte or the mark is not 0 to 2, continuing returns 0. Opening takes any words of that length and overwrites them.
+// The C interface: every call of the library on pointers, lengths and words. Each returns 1 where its layout is
+// right, as the header gives it, and 0, with nothing touched, where it is not. Sizes are words: m, d and the word
+// lengths; a call given sizes of another length, or with a word that does not fit a byte, returns 0. A session is
+// words: the sizes, position and mark. Where it has another length, a size does not fit a byte or the mark is not 0
+// to 2, continuing returns 0. Opening takes any words of that length and overwrites them.
 use file_calls::check_call;
 use file_calls::evaluate_call;
 use file_calls::operations_call;
@@ -34,7 +35,8 @@ pub extern "C" fn corkbingo_check(file: &[u8], out: &mut [u64]) -> u32
     check_call(file, out)
 }
 
-// Where the operation bytes stand in the file: out gets the start and the length of their stretch, 0 and 0 of a refused file.
+// Where the operation bytes stand in the file: out gets the start and the length of their stretch, 0 and 0 of a
+// refused file.
 #[no_mangle]
 pub extern "C" fn corkbingo_operations(file: &[u8], out: &mut [u64]) -> u32
     ensures { λ r. ⌜ OperationsCall (now (file .entry)) (now (out .entry)) r (now (out .exit)) ⌝ }
@@ -58,8 +60,8 @@ pub extern "C" fn corkbingo_grid(file: &[u8], out: &mut [u64]) -> u32
     grid_call(file, out)
 }
 
-// The output of a file at a vector: out gets the refusal and the output. Of the scratch slice the first N entries are zero afterwards where
-// the call is accepted; nothing else is touched.
+// The output of a file at a vector: out gets the refusal and the output. Of the scratch slice the first N entries are
+// zero afterwards where the call is accepted; nothing else is touched.
 #[no_mangle]
 pub extern "C" fn corkbingo_evaluate(
     file: &[u8],
@@ -75,8 +77,8 @@ pub extern "C" fn corkbingo_evaluate(
     evaluate_call(file, vector, scratch, out)
 }
 
-// The table of a file: out gets the refusal. Where the call is accepted, the first G table entries become the table, and the first N scratch
-// entries are zero afterwards; nothing else is touched.
+// The table of a file: out gets the refusal. Where the call is accepted, the first G table entries become the table,
+// and the first N scratch entries are zero afterwards; nothing else is touched.
 #[no_mangle]
 pub extern "C" fn corkbingo_table(
     file: &[u8],
@@ -92,8 +94,8 @@ pub extern "C" fn corkbingo_table(
     table_call(file, scratch, table, out)
 }
 
-// The table of given outputs: out gets the refusal. Where the call is accepted, the first G table entries become the table; nothing else is
-// touched.
+// The table of given outputs: out gets the refusal. Where the call is accepted, the first G table entries become the
+// table; nothing else is touched.
 #[no_mangle]
 pub extern "C" fn corkbingo_difference(
     sizes: &[u64],
@@ -109,8 +111,8 @@ pub extern "C" fn corkbingo_difference(
     transform_call(sizes, outputs, table, out, false)
 }
 
-// The outputs that a table sums to: out gets the refusal. Where the call is accepted, the first G entries of the outputs become the sums;
-// nothing else is touched.
+// The outputs that a table sums to: out gets the refusal. Where the call is accepted, the first G entries of the
+// outputs become the sums; nothing else is touched.
 #[no_mangle]
 pub extern "C" fn corkbingo_sum(
     sizes: &[u64],
@@ -142,8 +144,9 @@ pub extern "C" fn corkbingo_open(
     open_call(file1, file2, session, out)
 }
 
-// Continues a session on two files under a budget: session goes in and out, and answer gets the answer. Of the scratch slice the first
-// entries, as many as the larger N, are zero afterwards where the call is accepted; nothing else is touched.
+// Continues a session on two files under a budget: session goes in and out, and answer gets the answer. Of the
+// scratch slice the first entries, as many as the larger N, are zero afterwards where the call is accepted; nothing
+// else is touched.
 #[no_mangle]
 pub extern "C" fn corkbingo_continue(
     file1: &[u8],
@@ -162,8 +165,8 @@ pub extern "C" fn corkbingo_continue(
     continue_call(file1, file2, session, budget, scratch, answer)
 }
 
-// Writes the text of a continue call's answer, given as words, at the start of the text slice, and its count of bytes into out; `run` is the vectors
-// run over all calls. An answer of no kind has no text. Nothing else is touched.
+// Writes the text of a continue call's answer, given as words, at the start of the text slice, and its count of bytes
+// into out; `run` is the vectors run over all calls. An answer of no kind has no text. Nothing else is touched.
 #[no_mangle]
 pub extern "C" fn corkbingo_report(
     file1: &[u8],

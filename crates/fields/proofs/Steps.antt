@@ -12,10 +12,10 @@ use Rattle.fields.specs.File.{stepCount, operation, argument, leftOperan
 use Rattle.fields.specs.Steps.{decoded, stepAt, stepsFrom, stepsOf}
 
 module _ (s : List ℕ) where
-  from-length : (j n : ℕ) → length (stepsFrom s j n) ≡ n
+  length-from : (j n : ℕ) → length (stepsFrom s j n) ≡ n
   unfolding stepsFrom
-  from-length j zero = refl
-  from-length j (suc n) = ap suc (from-length (j + 1) n)
+  length-from j zero = refl
+  length-from j (suc n) = ap suc (length-from (j + 1) n)
 
   from-at : (j n k : ℕ) → k < n → getD (stepsFrom s j n) k (Constant 0) ≡ stepAt s (j + k)
   unfolding stepsFrom
@@ -23,9 +23,9 @@ module _ (s : List ℕ) where
   from-at j (suc n) zero l = ap (stepAt s) (sym (add-zero j))
   from-at j (suc n) (suc k) l = from-at (j + 1) n k (le-of-suc-le-suc l) ∙ ap (stepAt s) (omega arith)
 
-  pub steps-length : length (stepsOf s) ≡ stepCount s
+  pub length-steps : length (stepsOf s) ≡ stepCount s
   unfolding stepsOf
-  steps-length = from-length 0 (stepCount s)
+  length-steps = length-from 0 (stepCount s)
 
   pub steps-at : (k : ℕ) → k < stepCount s → getD (stepsOf s) k (Constant 0) ≡ stepAt s k
   unfolding stepsOf

@@ -21,6 +21,7 @@ decoded o a =
 unfoldable pub stepAt : List ℕ → ℕ → Step
 stepAt s k = decoded (operation s k) (argument s k)
 
+-- the k steps from step j on
 unfoldable pub stepsFrom : List ℕ → ℕ → ℕ → List Step
 stepsFrom s j zero = []
 stepsFrom s j (suc k) = stepAt s j ∷ stepsFrom s (j + 1) k

@@ -91,7 +91,8 @@ pub fn right_operand(a: u64) -> usize
     (a / 65536 % 65536) as usize
 }
 
-// Step k, given N, decoded from its operation byte and its argument. An operation byte past 5, which no accepted file has, reads as 5.
+// Step k, given N, decoded from its operation byte and its argument. An operation byte past 5, which no accepted file
+// has, reads as 5.
 pub fn step_at(file: &[u8], n: usize, k: usize) -> Step
     requires { ⌜ (n ≡ stepCount (now file)) × (headLength + n + 8 * k + 8 ≤ length (now file)) ⌝ }
     ensures { λ r. ⌜ r ≡ stepAt (now (file .entry)) k ⌝ }

@@ -11,11 +11,10 @@ use lib.ListN.{length, getD, take, drop, length-append, length-drop, List·getD-
 use lib.Seq.{take-append-le, drop-append-le}
 use borrow.Author.Tests.{le-ltb, ne-eqb, leb-true, not-false}
 use Rattle.ranges.proofs.Search.{true-or-false}
-use Rattle.sizes.specs.Sizes.{maxInputs, within, badOutput, badInputs, badWidths}
-use Rattle.sizes.specs.declared.Sizes.{Sizes}
+use Rattle.sizes.specs.Sizes.{maxInputs, within}
 use Rattle.words.specs.Bytes.{little}
 use Rattle.fields.specs.File.{headLength, sizesOf, stepCount}
-use Rattle.file.specs.Check.{maxSteps, tooShort, badCount, badLength, headFault, fileNumber, refusalOf}
+use Rattle.file.specs.Check.{maxSteps, tooShort, badCount, badLength, headFault}
 use Rattle.file.specs.Long.{longestFile, CutShort, LongFile}
 use Rattle.file.proofs.Number.{head-passed, number-head, refused-head}
 

@@ -18,9 +18,9 @@ pub cond-zero : (b : Bool) (x y : ℕ) → cond b (suc x) y ≡ 0 → (b ≡ fal
 cond-zero true x y e = absurd (omega arith)
 cond-zero false x y e = (refl, e)
 
-cond-le : (b : Bool) (x y n : ℕ) → x ≤ n → y ≤ n → cond b x y ≤ n
-cond-le true x y n l h = l
-cond-le false x y n l h = h
+cond-most : (b : Bool) (x y n : ℕ) → x ≤ n → y ≤ n → cond b x y ≤ n
+cond-most true x y n l h = l
+cond-most false x y n l h = h
 
 low : (a b : Bool) (x y : ℕ) → 7 ≤ x → 7 ≤ y → (cond a x (cond b y 0) ≡ 0 → ⊥) → 7 ≤ cond a x (cond b y 0)
 low true b x y l h n = l
@@ -63,45 +63,45 @@ module _ (s : List ℕ) where
         size = eqb-true _ _ (not-false _ (p6 .0));
       }
 
-  head-high : headFault s ≤ 6
+  head-most : headFault s ≤ 6
   unfolding headFault
-  head-high =
-      cond-le (tooShort s) 1 _ 6 (lit≤ tt)
-      (cond-le (badOutput (sizesOf s)) 2 _ 6 (lit≤ tt)
-      (cond-le (badInputs (sizesOf s)) 3 _ 6 (lit≤ tt)
-      (cond-le (badCount s) 4 _ 6 (lit≤ tt)
-      (cond-le (badWidths (sizesOf s)) 5 _ 6 (lit≤ tt)
-      (cond-le (badLength s) 6 0 6 (lit≤ tt) (lit≤ tt))))))
+  head-most =
+      cond-most (tooShort s) 1 _ 6 (lit≤ tt)
+      (cond-most (badOutput (sizesOf s)) 2 _ 6 (lit≤ tt)
+      (cond-most (badInputs (sizesOf s)) 3 _ 6 (lit≤ tt)
+      (cond-most (badCount s) 4 _ 6 (lit≤ tt)
+      (cond-most (badWidths (sizesOf s)) 5 _ 6 (lit≤ tt)
+      (cond-most (badLength s) 6 0 6 (lit≤ tt) (lit≤ tt))))))
 
-  step-low : (k : ℕ) → (stepFault s k ≡ 0 → ⊥) → 7 ≤ stepFault s k
+  step-least : (k : ℕ) → (stepFault s k ≡ 0 → ⊥) → 7 ≤ stepFault s k
   unfolding stepFault
-  step-low k = low (badOperation s k) (badArgument s k) 7 8 (lit≤ tt) (lit≤ tt)
+  step-least k = low (badOperation s k) (badArgument s k) 7 8 (lit≤ tt) (lit≤ tt)
 
   -- at the first faulty step, 7 or 8
-  found-low : faultyStep s < stepCount s → 7 ≤ stepFault s (faultyStep s)
+  found-least : faultyStep s < stepCount s → 7 ≤ stepFault s (faultyStep s)
   unfolding faultyStep faultyAt
-  found-low l = step-low _ (eqb-false _ _ (not-true _ (first-found (faultyAt s) 0 (stepCount s) (omega arith))))
+  found-least l = step-least _ (eqb-false _ _ (not-true _ (first-found (faultyAt s) 0 (stepCount s) (omega arith))))
 
   pub number-head : (headFault s ≡ 0 → ⊥) → fileNumber s ≡ headFault s
   unfolding fileNumber
   number-head n = simp (ne-eqb _ _ n)
 
   module _ (head : headFault s ≡ 0) where
-    number-step : faultyStep s < stepCount s → fileNumber s ≡ stepFault s (faultyStep s)
+    number-faulty : faultyStep s < stepCount s → fileNumber s ≡ stepFault s (faultyStep s)
     unfolding fileNumber
-    number-step l = simp (eq-eqb _ _ head, lt-ltb _ _ l)
+    number-faulty l = simp (eq-eqb _ _ head, lt-ltb _ _ l)
 
-    number-none : stepCount s ≤ faultyStep s → fileNumber s ≡ 0
+    number-sound : stepCount s ≤ faultyStep s → fileNumber s ≡ 0
     unfolding fileNumber
-    number-none l = simp (eq-eqb _ _ head, le-ltb _ _ l)
+    number-sound l = simp (eq-eqb _ _ head, le-ltb _ _ l)
 
-  shown-none : fileNumber s ≤ 6 → shownStep s ≡ 0
+  shown-sound : fileNumber s ≤ 6 → shownStep s ≡ 0
   unfolding shownStep
-  shown-none l = simp (lt-leb 7 (fileNumber s) (omega arith))
+  shown-sound l = simp (lt-leb 7 (fileNumber s) (omega arith))
 
-  shown-step : 7 ≤ fileNumber s → shownStep s ≡ faultyStep s
+  shown-faulty : 7 ≤ fileNumber s → shownStep s ≡ faultyStep s
   unfolding shownStep
-  shown-step l = simp (le-leb 7 (fileNumber s) l)
+  shown-faulty l = simp (le-leb 7 (fileNumber s) l)
 
   refused :
       (w x k : ℕ) → x ≡ fileNumber s → k ≡ shownStep s → (fileNumber s ≡ 0 → ⊥) → record { number = x; file = w; step = k } ≡ refusalOf w s
@@ -111,20 +111,20 @@ module _ (s : List ℕ) where
   pub refused-head : (w : ℕ) {x : ℕ} → x ≡ headFault s → (x ≡ 0 → ⊥) → record { number = x; file = w; step = 0 } ≡ refusalOf w s
   refused-head w {x} e n =
       let whole = number-head (λ (z : headFault s ≡ 0). n (e ∙ z)) in
-      refused w x 0 (e ∙ sym whole) (sym (shown-none (omega (arith, head-high)))) (λ (z : fileNumber s ≡ 0). n (e ∙ sym whole ∙ z))
+      refused w x 0 (e ∙ sym whole) (sym (shown-sound (omega (arith, head-most)))) (λ (z : fileNumber s ≡ 0). n (e ∙ sym whole ∙ z))
 
   module _ (head : headFault s ≡ 0) where
-    pub refused-step :
+    pub refused-faulty :
         (w : ℕ) {k x : ℕ} → k ≡ faultyStep s → x ≡ stepFault s k → k < stepCount s → record { number = x; file = w; step = k } ≡ refusalOf w s
-    refused-step w {k} {x} ek ex l =
+    refused-faulty w {k} {x} ek ex l =
         let found : faultyStep s < stepCount s = omega arith in
-        let whole = number-step head found in
-        let least = found-low found in
-        refused w x k (ex ∙ ap (stepFault s) ek ∙ sym whole) (ek ∙ sym (shown-step (omega arith))) (λ (z : fileNumber s ≡ 0). omega arith)
+        let whole = number-faulty head found in
+        let least = found-least found in
+        refused w x k (ex ∙ ap (stepFault s) ek ∙ sym whole) (ek ∙ sym (shown-faulty (omega arith))) (λ (z : fileNumber s ≡ 0). omega arith)
 
-    pub refused-none : (w : ℕ) → stepCount s ≤ faultyStep s → record { number = 0; file = 0; step = 0 } ≡ refusalOf w s
+    pub refused-sound : (w : ℕ) → stepCount s ≤ faultyStep s → record { number = 0; file = 0; step = 0 } ≡ refusalOf w s
     unfolding refusalOf
-    refused-none w l = simp (eq-eqb _ _ (number-none head l))
+    refused-sound w l = simp (eq-eqb _ _ (number-sound head l))
 
   -- the number of the refusal is the file's
   pub refusal-number : (w : ℕ) → refusalOf w s .number ≡ fileNumber s
@@ -151,6 +151,6 @@ module _ (s : List ℕ) where
           ⊎-elim
           (λ (t : ltb (faultyStep s) (stepCount s) ≡ true).
           let l : faultyStep s < stepCount s = ltb-true _ _ t in
-          absurd (omega (arith, found-low l, number-step head l)))
+          absurd (omega (arith, found-least l, number-faulty head l)))
           (λ (t : ltb (faultyStep s) (stepCount s) ≡ false). (head, ltb-false _ _ t))
           (true-or-false (ltb (faultyStep s) (stepCount s)))

@@ -1,4 +1,5 @@
 -- The conditions that a file meets, each under document 01's number ('Refused because of the input'), and what checking a file answers.
+--   maxSteps          the largest N
 --   tooShort          1. the file is under 12 bytes
 --   badOutput, badInputs, badWidths of its sizes   2, 3, 5
 --   badCount          4. N is not 1 to 1,024

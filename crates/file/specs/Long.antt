@@ -12,6 +12,7 @@ use Rattle.fields.specs.File.{headLength}
 abbrev pub longestFile : ℕ
 longestFile = headLength + 9 * maxSteps
 
+-- a file that starts so is judged by its start, and refused
 pub record CutShort (start rest : List ℕ) : Type 0 where
   pub number : fileNumber (start ++ rest) ≡ fileNumber start
   pub refusal : (w : ℕ) → refusalOf w (start ++ rest) ≡ refusalOf w start

@@ -12,8 +12,8 @@ ghost use Rattle.file.specs.Stretch.{Stretch};
 
 mod faults;
 
-// Whether a file is accepted, read as file `which`. Number 0: it is. Otherwise the first of conditions 1 to 8 that holds, in document
-// 01's order, with the file and, in 7 and 8, the step.
+// Whether a file is accepted, read as file `which`. Number 0: it is. Otherwise the first of conditions 1 to 8 that
+// holds, in document 01's order, with the file and, in 7 and 8, the step.
 pub fn check_as(file: &[u8], which: u64) -> Refusal
     ensures { λ r. ⌜ r ≡ refusalOf which (now (file .entry)) ⌝ }
 {
@@ -49,7 +49,8 @@ pub fn check(file: &[u8]) -> Refusal
     check_as(file, 1)
 }
 
-// The operation bytes: the stretch of the caller's slice itself from byte 12 on, N bytes long. Of a refused file it is empty.
+// The operation bytes: the stretch of the caller's slice itself from byte 12 on, N bytes long. Of a refused file it
+// is empty.
 pub fn operations(file: &[u8]) -> &[u8]
     ensures { λ r. ⌜ Stretch (file .entry) r ⌝ }
 {

@@ -23,9 +23,9 @@ module _ (s : List ℕ) where
   operations-refused n = rw (ne-eqb (fileNumber s) 0 n)
 
   -- the stretch of an accepted file has N bytes
-  stretch-length : fileNumber s ≡ 0 → length (stretchOf s) ≡ stepCount s
+  length-stretch : fileNumber s ≡ 0 → length (stretchOf s) ≡ stepCount s
   unfolding operationsOf
-  stretch-length e =
+  length-stretch e =
       let a = accepted s e in
       rw (stretch-accepted s e, length-take, length-drop) (omega (arith, a .size))
 
@@ -35,7 +35,7 @@ module _ (s : List ℕ) where
       start ∷ n ∷ [] ≡ operationWords s
   operations-told start n e t =
       elim (ℕ-discrete (fileNumber s) 0) [
-        | yes z ↦ let l = stretch-length z in
+        | yes z ↦ let l = length-stretch z in
             ⊎-elim (λ w. absurd (omega (arith, e, l, accepted s z .countLow, w .0))) (λ w. cc (operations-accepted z)) t
         | no x ↦ let l = stretch-refused s x in
             let k : length (stretchOf s) ≡ 0 = rw l in

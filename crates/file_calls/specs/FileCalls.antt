@@ -17,7 +17,7 @@ use mathlib.Core.Path.{_≡_}
 use Prim.Native.Nat.{ℕ, _+_}
 use lib.Dec.{eqb}
 use lib.ListN.{length}
-use Rattle.evaluate.specs.Evaluate.{evaluatedAt, scratchAfter}
+use Rattle.evaluate.specs.Evaluate.{evaluatedAt, evaluatedScratch}
 use Rattle.evaluate.specs.declared.Evaluated.{Evaluated}
 use Rattle.file.specs.Check.{fileNumber, refusalOf}
 use Rattle.fields.specs.File.{headLength, stepCount}
@@ -48,4 +48,4 @@ evaluateWords e = refusalWords (e .refusal) ++ (e .output ∷ [])
 pub record EvaluateCall (f x s o : List ℕ) (r : ℕ) (s′ o′ : List ℕ) : Type 0 where
   pub result : r ≡ returned (has evaluateLength o)
   pub out : o′ ≡ leaves (has evaluateLength o) (evaluateWords (evaluatedAt f x (length s))) o
-  pub scratch : s′ ≡ leaves (has evaluateLength o) (scratchAfter f x s) s
+  pub scratch : s′ ≡ leaves (has evaluateLength o) (evaluatedScratch f x s) s

@@ -1,5 +1,5 @@
-// The calls on one file, in words: checking, finding the operation bytes, evaluating. Each returns 1 where its layout is right, and 0, with
-// nothing touched, where it is not.
+// The calls on one file, in words: checking, finding the operation bytes, evaluating. Each returns 1 where its layout
+// is right, and 0, with nothing touched, where it is not.
 use evaluate::evaluate;
 use fields::HEAD;
 use file::check;
@@ -31,7 +31,8 @@ pub fn check_call(file: &[u8], out: &mut [u64]) -> u32
     1
 }
 
-// Where the operation bytes stand in the file: out gets the start and the length of their stretch, 0 and 0 of a refused file.
+// Where the operation bytes stand in the file: out gets the start and the length of their stretch, 0 and 0 of a
+// refused file.
 pub fn operations_call(file: &[u8], out: &mut [u64]) -> u32
     ensures { λ r. ⌜ OperationsCall (now (file .entry)) (now (out .entry)) r (now (out .exit)) ⌝ }
 {
@@ -44,8 +45,8 @@ pub fn operations_call(file: &[u8], out: &mut [u64]) -> u32
     1
 }
 
-// The output of a file at a vector: out gets the refusal and the output. Of the scratch slice the first N entries are zero afterwards where
-// the call is accepted; nothing else is touched.
+// The output of a file at a vector: out gets the refusal and the output. Of the scratch slice the first N entries are
+// zero afterwards where the call is accepted; nothing else is touched.
 pub fn evaluate_call(file: &[u8], vector: &[u64], scratch: &mut [u64], out: &mut [u64]) -> u32
     ensures { λ r. ⌜
         EvaluateCall (now (file .entry)) (now (vector .entry)) (now (scratch .entry)) (now (out .entry)) r

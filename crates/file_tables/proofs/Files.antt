@@ -11,7 +11,7 @@ use lib.ListN.{length, take, drop, length-take, length-drop}
 use lib.Pow.{pow-pos}
 use lib.Seq.{take-all}
 use Rattle.differences.specs.Table.{mixedDifference, listed, tableOf, given}
-use Rattle.differences.proofs.Listed.{length-values, listed-equal, given-listed}
+use Rattle.differences.proofs.Listed.{length-tabulate, listed-equal, given-listed}
 use Rattle.differences.proofs.Neighbours.{mixed-remainder}
 use Rattle.differences.proofs.Tables.{difference-mixed, sumOfTable}
 use Rattle.evaluate.specs.Evaluate.{outputOf}
@@ -22,7 +22,7 @@ use Rattle.grid.specs.Grid.{axesOf, gridSize, gridOf}
 use Rattle.grid.specs.declared.Grid.{Grid}
 use Rattle.grid.proofs.Grids.{grid-size, grid-axes, grid-least}
 use Rattle.integers.specs.Modulo.{remainder}
-use Rattle.integers.proofs.Remainder.{remainder-pos, remainder-lt}
+use Rattle.integers.proofs.Remainder.{remainder-pos, remainder-most}
 use Rattle.places.specs.Places.{Below, size, vectorAt}
 use Rattle.sizes.specs.Sizes.{maxInputs, Sound}
 use Rattle.sizes.specs.declared.Sizes.{Sizes}
@@ -56,7 +56,7 @@ module _ (s : List ℕ) where
       (λ x b.
       ap (λ a. remainder a M) (given-listed us (outputOf s) x b)
       ∙ remainder-pos (outputOf s x) M
-      ∙ mod-eq-of-lt (remainder-lt (exact (stepsOf s) x) M (pow-pos (sizesOf s .m))))
+      ∙ mod-eq-of-lt (remainder-most (exact (stepsOf s) x) M (pow-pos (sizesOf s .m))))
 
   -- the table of the file, summed, gives the outputs over the grid
   pub table-sums : sumsOf (sizesOf s) (tableOfFile s) ≡ listed (axesOf (sizesOf s)) (outputOf s)
@@ -102,7 +102,7 @@ module _ (s : List ℕ) (a : Accepted s) (z : Sizes) (ez : z ≡ sizesOf s) (g :
   unfolding gridSize differencesOf transformOf
   filled table outputs out e o =
       let ys = listed (axesOf z) (outputOf s) in
-      let n : length ys ≡ gridSize z = length-values (λ p. outputOf s (vectorAt (axesOf z) p)) 0 (size (axesOf z)) in
+      let n : length ys ≡ gridSize z = length-tabulate (λ p. outputOf s (vectorAt (axesOf z) p)) 0 (size (axesOf z)) in
       in-place z sizes-full sizes-sound g eg false ys table outputs out (omega (arith, n))
       (e ∙ ap (λ l. l ++ drop (g .size) table) (ap (λ us. listed us (outputOf s)) same-axes ∙ sym (take-all (g .size) ys (omega (arith, n, grid-size z g eg)))))
       o

@@ -20,11 +20,10 @@ use Rattle.file.specs.Check.{fileNumber, refusalOf}
 use Rattle.fields.specs.File.{sizesOf, stepCount}
 use Rattle.fields.specs.Steps.{stepsOf}
 use Rattle.grid.specs.Grid.{axesOf, gridSize, tooLarge}
-use Rattle.sizes.specs.Sizes.{refusedBy, accepted}
+use Rattle.sizes.specs.Sizes.{refusedBy, accepted, accepts}
 use Rattle.sizes.specs.declared.Refusal.{Refusal}
 use Rattle.slices.specs.Slices.{cleared}
 use Rattle.datapath.specs.Steps.{exact}
-use Rattle.tables.specs.Tables.{accepts}
 
 unfoldable pub tableRefusal : List ℕ → ℕ → ℕ → Refusal
 tableRefusal s room len =

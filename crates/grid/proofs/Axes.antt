@@ -1,4 +1,4 @@
--- The axes of a grid: none is above 66, so eight of them give fewer than 2^64 vectors.
+-- The axes of a grid: none is above the largest bound, so as many as a file may have inputs give fewer than 2^64 vectors.
 use mathlib.Core.Path.{_≡_}
 use mathlib.Core.Bool.{false}
 use mathlib.Core.List.{List, [], _∷_}
@@ -10,7 +10,7 @@ use lib.ListN.{length, getD, length-take}
 use lib.Pow.{pow-mono}
 use borrow.Author.Tests.{lt-leb}
 use Rattle.bound.specs.Axes.{axis, axes}
-use Rattle.bound.specs.Bound.{bound}
+use Rattle.bound.specs.Bound.{bound, maxBound}
 use Rattle.bound.proofs.Least.{bound-least, bound-most}
 use Rattle.places.specs.Places.{size}
 use Rattle.sizes.specs.Sizes.{maxInputs}
@@ -18,7 +18,7 @@ use Rattle.sizes.specs.declared.Sizes.{Sizes}
 use Rattle.grid.specs.Grid.{widthsOf, axesOf, gridSize, tooLarge}
 
 module _ (m : ℕ) (low : 1 ≤ m) (high : m ≤ 64) where
-  pub axis-most : (n : ℕ) → axis m n ≤ 66
+  pub axis-most : (n : ℕ) → axis m n ≤ maxBound
   unfolding axis
   axis-most n = le-trans (min-le-right (2 ^ n) (bound m)) (bound-most m low high)
 
@@ -27,7 +27,7 @@ module _ (m : ℕ) (low : 1 ≤ m) (high : m ≤ 64) where
   axis-wide n h = min-eq-right (omega (arith, bound-most m low high, pow-mono h))
 
   -- so no axis of a grid is
-  pub axes-most : (ns : List ℕ) (i : ℕ) → getD (axes m ns) i 0 ≤ 66
+  pub axes-most : (ns : List ℕ) (i : ℕ) → getD (axes m ns) i 0 ≤ maxBound
   axes-most [] i = omega arith
   axes-most (n ∷ ns) zero = axis-most n
   axes-most (n ∷ ns) (suc i) = axes-most ns i
@@ -42,13 +42,13 @@ module _ (m : ℕ) (low : 1 ≤ m) (high : m ≤ 64) where
   size-least [] = lit≤ tt
   size-least (n ∷ ns) = one-le-mul (axis-least n) (size-least ns)
 
-  pub size-most : (ns : List ℕ) → size (axes m ns) ≤ 66 ^ length ns
+  pub size-most : (ns : List ℕ) → size (axes m ns) ≤ maxBound ^ length ns
   unfolding size
   size-most [] = lit≤ tt
-  size-most (n ∷ ns) = rw (pow-succ' 66 (length ns)) (mul-le-mul (axis-most n) (size-most ns))
+  size-most (n ∷ ns) = rw (pow-succ' maxBound (length ns)) (mul-le-mul (axis-most n) (size-most ns))
 
--- eight axes give fewer than 2^64 vectors
-pub size-fits : (m : ℕ) → 1 ≤ m → m ≤ 64 → (ns : List ℕ) → length ns ≤ 8 → size (axes m ns) < 2 ^ 64
+-- as many axes as a file may have inputs give fewer than 2^64 vectors
+pub size-fits : (m : ℕ) → 1 ≤ m → m ≤ 64 → (ns : List ℕ) → length ns ≤ maxInputs → size (axes m ns) < 2 ^ 64
 size-fits m low high ns h =
     le-trans (omega (arith, le-trans (size-most m low high ns) (pow-le-pow-right (lit< tt) h))) (le-refl (2 ^ 64))
 

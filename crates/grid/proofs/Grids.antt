@@ -2,7 +2,7 @@
 use mathlib.Core.Path.{_≡_, _∙_, ap}
 use Prim.Native.Nat.{_≤_}
 use native.Mathlib.Omega.{arith}
-use lib.ListN.{length, take, length-map}
+use lib.ListN.{length, take, length-map, length-take}
 use lib.Seq.{take-at, length-take-le}
 use Rattle.sizes.specs.Sizes.{maxInputs, Sound}
 use Rattle.sizes.specs.declared.Sizes.{Sizes}
@@ -20,6 +20,10 @@ module _ (z : Sizes) (g : Grid) (e : g ≡ gridOf z) where
   grid-axes w h =
       ap (λ (g : Grid). take (z .d) (g .axes)) e
       ∙ take-at (axesOf z) _ (z .d) (rw length-map (length-take-le (z .d) (z .widths) (omega arith)))
+
+pub length-axes-most : (z : Sizes) → length (axesOf z) ≤ z .d
+unfolding axesOf
+length-axes-most z = simp (length-map, length-take) (omega arith)
 
 pub grid-least : (z : Sizes) → Sound z → 1 ≤ gridSize z
 unfolding gridSize axesOf

@@ -27,7 +27,8 @@ fn axis(m: u64, n: u64) -> u64
     if all < most { all } else { most }
 }
 
-// The grid of sizes with m from 1 to 64 and at most INPUTS inputs: each axis is the smaller of 2^n and L(m), and the size is their product.
+// The grid of sizes with m from 1 to 64 and at most INPUTS inputs: each axis is the smaller of 2^n and L(m), and the
+// size is their product.
 pub fn grid_of(z: Sizes) -> Grid
     requires { ⌜ Sound z ⌝ }
     ensures { λ r. ⌜ r ≡ gridOf z ⌝ }

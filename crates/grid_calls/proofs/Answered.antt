@@ -16,9 +16,9 @@ use Rattle.grid_calls.specs.GridCalls.{boundWords, gridAsWords, noGrid, 
 
 module _ (s : List ℕ) where
   -- the refusal of an accepted file
-  pub refusal-none : fileNumber s ≡ 0 → refusalWords (refusalOf 1 s) ≡ 0 ∷ 0 ∷ 0 ∷ []
+  pub refusal-accepted : fileNumber s ≡ 0 → refusalWords (refusalOf 1 s) ≡ 0 ∷ 0 ∷ 0 ∷ []
   unfolding refusalOf
-  refusal-none e = rw (eq-eqb (fileNumber s) 0 e)
+  refusal-accepted e = rw (eq-eqb (fileNumber s) 0 e)
 
   pub grid-refused : ¬ (fileNumber s ≡ 0) → gridWords s ≡ refusalWords (refusalOf 1 s) ++ noGrid
   unfolding gridWords

@@ -38,6 +38,7 @@ pub record BoundCall (m : ℕ) (o : List ℕ) (r : ℕ) (o′ : List ℕ) : Type
 abbrev pub gridLength : ℕ
 gridLength = refusalLength + maxInputs + 1
 
+-- the words of a grid: its axes, and its size
 abbrev pub gridAsWords : Grid → List ℕ
 gridAsWords g = g .axes ++ (g .size ∷ [])
 

@@ -1,5 +1,5 @@
-// The calls on the bound and on the grid of a file, in words. Each returns 1 where its layout is right, and 0, with nothing touched, where it
-// is not.
+// The calls on the bound and on the grid of a file, in words. Each returns 1 where its layout is right, and 0, with
+// nothing touched, where it is not.
 use bound::bound;
 use fields::read_sizes;
 use file::check;

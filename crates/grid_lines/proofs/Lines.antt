@@ -1,69 +1,52 @@
--- Along w lines of a grid, a lane for each: a vector stands beside the one before it in its line, so the rows of a file that hold the values there
--- and are computed again hold those at the vector. Before the first lane that differs then, the outputs agree.
---   Agreed w s₁ s₂ .. a t                             the invariant of `agreeing_lanes`: the lanes' fronts are as at entry, in the first a lanes the
---                                                   outputs agree at every vector with a last input below t, and in all lanes the rows hold the
---                                                   values at those with the last input t - 1; every lane is on the grid
---   Walked a s .. t                                   the invariant of one file along the lines: the fronts are as at entry, every lane is on the grid, and the
---                                                   rows hold the values at the vectors with the last input t - 1
---   SavedTo a s inputs saved r t                      in the first r lanes the saved rows show the outputs at every vector with a last input below t
+-- Two files along w lines of a grid, a lane for each: before the first lane that differs the outputs agree.
+--   Agreed w s₁ s₂ .. a t    the invariant of `agreeing_apart`: the lanes' fronts are as at entry, in the first a lanes the outputs agree at every
+--                            vector with a last input below t, and in all lanes the rows hold the values at those with the last input t - 1; every
+--                            lane is on the grid
 -- Assumes nothing.
-use mathlib.Core.Bool.{false}
 use mathlib.Core.Path.{_≡_, refl, sym, _∙_, ap}
 use mathlib.Core.Logic.{⊎-elim}
 use mathlib.Core.List.{List}
-use Prim.Native.Nat.{ℕ, _+_, _-_, _%_, _^_, _≤_, _<_}
-use native.Mathlib.Decide.{ℕ-discrete}
+use Prim.Native.Nat.{ℕ, _+_, _-_, _≤_, _<_}
 use native.Mathlib.Nat.{eq-or-lt-of-le}
 use native.Mathlib.Omega.{arith}
 use borrow.Author.Tests.{eqb-true, not-false}
-use lib.ListN.{length, getD, take, set, length-append, length-replicate}
-use lib.Seq.{getD-set-same, getD-set-other, getD-take}
+use lib.ListN.{length, getD, take}
+use lib.Seq.{getD-take}
 use Rattle.batches.specs.Prepared.{Prepared}
 use Rattle.batches.proofs.Tests.{shown₁, shown₂, lane-test}
 use Rattle.batches.specs.declared.Shape.{Shape}
-use Rattle.dependence.specs.Dependence.{Beside, Rest}
+use Rattle.dependence.specs.Dependence.{Rest}
 use Rattle.evaluate.specs.Evaluate.{outputOf}
-use Rattle.file.specs.Accepted.{Accepted}
-use Rattle.fields.specs.File.{sizesOf, stepCount}
+use Rattle.fields.specs.File.{sizesOf}
 use Rattle.grid.specs.Grid.{axesOf}
-use Rattle.lanes.specs.Lanes.{HeldTo, Shown, LanesOnGrid}
-use Rattle.lanes.proofs.Stepped.{lane-output}
+use Rattle.lanes.specs.Lanes.{HeldTo, LanesOnGrid}
+use Rattle.line_outputs.specs.AlongLines.{Front, Refreshed, FrontsKept}
+use Rattle.line_outputs.proofs.AlongLines.{filled-on-grid, fronts-kept, refreshed}
 use Rattle.plan.specs.Plan.{Planned}
 use Rattle.plan.specs.declared.Plan.{Plan}
 use Rattle.plan.proofs.Numbers as plan
 use Rattle.row_lanes.specs.Lanes.{unequal}
-use Rattle.rows.specs.Rows.{lane, Written}
+use Rattle.rows.specs.Rows.{Written}
 use Rattle.ranges.specs.Search.{first}
-use Rattle.ranges.proofs.Search.{first-high, first-before}
+use Rattle.ranges.proofs.Search.{first-most, first-before}
 use Rattle.sizes.specs.Sizes.{maxInputs}
-use Rattle.vectors.specs.Vectors.{held}
-use Rattle.vectors.proofs.Held.{held-entry}
-use Rattle.grid_lines.specs.Block.{lastAxis, Front, Last, Refreshed, AlongLine}
-use Rattle.grid_lines.specs.declared.Along.{Along}
-
--- beside every vector stands one with the value v for input j
-module _ (y : List ℕ) (j v : ℕ) where
-  beside : Beside j (set (held y) j v) y
-  beside i n = getD-set-other (held y) j i v 0 n ∙ held-entry y i
-
-  beside-at : j < maxInputs → getD (set (held y) j v) j 0 ≡ v
-  beside-at h = getD-set-same (held y) j v 0 (simp (length-append, length-replicate) (omega arith))
+use Rattle.grid_lines.specs.Lines.{lastAxis}
 
 pub record Agreed (w : ℕ) (s₁ s₂ : List ℕ) (n₁ n₂ d : ℕ) (inputs₀ before₁ before₂ rows₁ rows₂ inputs : List ℕ) (a t : ℕ) : Type 0 where
   pub long : length inputs ≡ length inputs₀
   pub long₁ : length rows₁ ≡ length before₁
   pub long₂ : length rows₂ ≡ length before₂
-  pub fronts : (i l : ℕ) → i < d - 1 → l < w → lane w inputs i l ≡ lane w inputs₀ i l
+  pub fronts : FrontsKept w d inputs₀ inputs
   pub onGrid : LanesOnGrid w s₁ inputs
   pub few : a ≤ w
   pub agree : (l : ℕ) (x : List ℕ) → l < a → Front w d inputs₀ l x → getD x (d - 1) 0 < t → outputOf s₁ x ≡ outputOf s₂ x
   pub held₁ : (l : ℕ) (x : List ℕ) → 0 < t → l < w → Front w d inputs₀ l x → getD x (d - 1) 0 ≡ t - 1 → HeldTo w s₁ x rows₁ l n₁
   pub held₂ : (l : ℕ) (x : List ℕ) → 0 < t → l < w → Front w d inputs₀ l x → getD x (d - 1) 0 ≡ t - 1 → HeldTo w s₂ x rows₂ l n₂
 
-pub none :
+pub agreed-start :
     (w : ℕ) (s₁ s₂ : List ℕ) (n₁ n₂ d : ℕ) (inputs rows₁ rows₂ : List ℕ) → LanesOnGrid w s₁ inputs →
     Agreed w s₁ s₂ n₁ n₂ d inputs rows₁ rows₂ rows₁ rows₂ inputs w 0
-none w s₁ s₂ n₁ n₂ d inputs rows₁ rows₂ g =
+agreed-start w s₁ s₂ n₁ n₂ d inputs rows₁ rows₂ g =
     record {
       long = refl;
       long₁ = refl;
@@ -76,11 +59,6 @@ none w s₁ s₂ n₁ n₂ d inputs rows₁ rows₂ g =
       held₂ = λ l x z. absurd (omega arith);
     }
 
--- lanes that are not unequal are equal modulo 2^m
-lanes-equal : (w m : ℕ) (v : List ℕ) (a : ℕ) (u : List ℕ) (b l : ℕ) → unequal w m v a u b l ≡ false → lane w v a l % 2 ^ m ≡ lane w u b l % 2 ^ m
-unfolding unequal
-lanes-equal w m v a u b l e = eqb-true _ _ (not-false _ e)
-
 -- the first d of the axes as the machine holds them are the grid's
 pub axis-at :
     {s₁ s₂ : List ℕ} {p : Plan} → Planned s₁ s₂ p → (i : ℕ) → i < p .d → getD (p .axes) i 0 ≡ getD (axesOf (sizesOf s₁)) i 0
@@ -88,43 +66,7 @@ axis-at {p = p} k i h =
     let e : getD (take (p .d) (p .axes)) i 0 ≡ getD (p .axes) i 0 = rw getD-take in
     sym e ∙ ap (λ us. getD us i 0) (plan.grid k)
 
--- with a value of the last input below its axis, the lanes stay on the grid
-pub filled-on-grid :
-    (w : ℕ) (s : List ℕ) (d : ℕ) (inputs inputs' : List ℕ) (t : ℕ) → d ≡ sizesOf s .d → t < getD (axesOf (sizesOf s)) (d - 1) 0 →
-    Written w inputs inputs' (d - 1) (λ l. t) → LanesOnGrid w s inputs → LanesOnGrid w s inputs'
-filled-on-grid w s d inputs inputs' t e h filled g i l hi hl =
-    elim (ℕ-discrete i (d - 1)) [
-      | yes q ↦ rw (q, filled .row l hl) h
-      | no q ↦ rw (filled .others i l hl q) (g i l hi hl)
-    ]
-
--- the input rows of a block at the value t of the last input
-module _
-    (w d : ℕ) (inputs₀ inputs inputs' : List ℕ) (t : ℕ) (low : 1 ≤ d) (high : d ≤ maxInputs)
-    (fronts : (i l : ℕ) → i < d - 1 → l < w → lane w inputs i l ≡ lane w inputs₀ i l) (filled : Written w inputs inputs' (d - 1) (λ l. t))
-  where
-    fronts-kept : (i l : ℕ) → i < d - 1 → l < w → lane w inputs' i l ≡ lane w inputs₀ i l
-    fronts-kept i l h g = filled .others i l g (λ e. omega arith) ∙ fronts i l h g
-
-    reads : (l : ℕ) (y : List ℕ) → l < w → Front w d inputs₀ l y → getD y (d - 1) 0 ≡ t → (i : ℕ) → i < d → lane w inputs' i l ≡ getD y i 0
-    reads l y g f e i h =
-        elim (ℕ-discrete i (d - 1)) [
-          | yes q ↦ rw q (filled .row l g ∙ sym e)
-          | no q ↦ let less : i < d - 1 = omega arith in fronts-kept i l less g ∙ f i less
-        ]
-
-    -- the rows of a file that held the values at t - 1 hold those at t
-    refreshed :
-        (s : List ℕ) (n u : ℕ) (before after list : List ℕ) (count : ℕ) → d ≡ sizesOf s .d →
-        Refreshed (record { n = n; count = count; d = d; u = u; w = w }) s inputs' before after list t →
-        Rest s (d - 1) n list count →
-        ((l : ℕ) (x : List ℕ) → 0 < t → l < w → Front w d inputs₀ l x → getD x (d - 1) 0 ≡ t - 1 → HeldTo w s x before l n) →
-        (l : ℕ) (y : List ℕ) → l < w → Front w d inputs₀ l y → getD y (d - 1) 0 ≡ t → HeldTo w s y after l n
-    refreshed s n u before after list count size run rest was l y g f e =
-        run (d - 1) l (set (held y) (d - 1) (t - 1)) y g rest (beside y (d - 1) (t - 1)) (λ i h. reads l y g f e i (rw size h))
-        (λ some. was l _ some g (λ i h. f i h ∙ sym (beside y (d - 1) (t - 1) i (λ q. omega arith))) (beside-at y (d - 1) (t - 1) (omega arith)))
-
--- a round of the block: the last input becomes t, both files' rows are refreshed, and the first lane that differs is found
+-- a round: the last input becomes t, both files' rows are refreshed, and the first lane that differs is found
 module _
     (v : Shape) (s₁ s₂ : List ℕ) (p : Plan) (inputs₀ before₁ before₂ : List ℕ) (rows₁ rows₂ inputs : List ℕ) (rows₁' rows₂' inputs' : List ℕ) (a t : ℕ)
     (k : Prepared v s₁ s₂ p rows₁' rows₂') (was : Agreed (v .w) s₁ s₂ (p .n1) (p .n2) (p .d) inputs₀ before₁ before₂ rows₁ rows₂ inputs a t)
@@ -148,13 +90,13 @@ module _
     high : d ≤ maxInputs
     high = omega (arith, plan.inputs (k .planned), k .planned .files .sound₁ .inputsHigh)
 
-    pub more :
+    pub agreed-step :
         (list₁ list₂ : List ℕ) (count₁ count₂ m b : ℕ) → t < lastAxis p → length inputs' ≡ length inputs → length rows₁' ≡ length rows₁ → length rows₂' ≡ length rows₂ →
         Rest s₁ (d - 1) n₁ list₁ count₁ → Rest s₂ (d - 1) n₂ list₂ count₂ → Refreshed (record { n = n₁; count = count₁; d = d; u = lastAxis p; w = w }) s₁ inputs' rows₁ rows₁' list₁ t →
         Refreshed (record { n = n₂; count = count₂; d = d; u = lastAxis p; w = w }) s₂ inputs' rows₂ rows₂' list₂ t → m ≡ sizesOf s₁ .m →
         b ≡ first (unequal w m rows₁' (n₁ - 1) rows₂' (n₂ - 1)) 0 a →
         Agreed w s₁ s₂ n₁ n₂ d inputs₀ before₁ before₂ rows₁' rows₂' inputs' b (t + 1)
-    more list₁ list₂ count₁ count₂ m b below long long₁ long₂ rest₁ rest₂ run₁ run₂ e found =
+    agreed-step list₁ list₂ count₁ count₂ m b below long long₁ long₂ rest₁ rest₂ run₁ run₂ e found =
         record {
           long = long ∙ was .long;
           long₁ = long₁ ∙ was .long₁;
@@ -180,7 +122,7 @@ module _
             (plan.inputs (k .planned) ∙ ap (λ z. z .d) (k .planned .files .same)) run₂ rest₂ (was .held₂)
 
         fewer : b ≤ a
-        fewer = omega (arith, found, first-high (unequal w m rows₁' (n₁ - 1) rows₂' (n₂ - 1)) 0 a)
+        fewer = omega (arith, found, first-most (unequal w m rows₁' (n₁ - 1) rows₂' (n₂ - 1)) 0 a)
 
         same : (l : ℕ) (x : List ℕ) → l < b → Front w d inputs₀ l x → getD x (d - 1) 0 ≡ t → outputOf s₁ x ≡ outputOf s₂ x
         same l x g f q =
@@ -190,78 +132,3 @@ module _
             (sym (lane-test k rows₁' rows₂' (n₁ - 1) (n₂ - 1) l x (shown₁ k rows₁' x l (now₁ l x h f q)) (shown₂ k rows₂' x l (now₂ l x h f q)))
             ∙ first-before (unequal w (sizesOf s₁ .m) rows₁' (n₁ - 1) rows₂' (n₂ - 1)) 0 a l (omega arith)
             (omega (arith, found ∙ ap (λ j. first (unequal w j rows₁' (n₁ - 1) rows₂' (n₂ - 1)) 0 a) e))))
-
-pub record Walked (a : Along) (s inputs₀ before rows inputs : List ℕ) (t : ℕ) : Type 0 where
-  pub long : length inputs ≡ length inputs₀
-  pub longRows : length rows ≡ length before
-  pub fronts : (i l : ℕ) → i < a .d - 1 → l < a .w → lane (a .w) inputs i l ≡ lane (a .w) inputs₀ i l
-  pub onGrid : LanesOnGrid (a .w) s inputs
-  pub held :
-      (l : ℕ) (x : List ℕ) → 0 < t → l < a .w → Front (a .w) (a .d) inputs₀ l x → getD x (a .d - 1) 0 ≡ t - 1 → HeldTo (a .w) s x rows l (a .n)
-
-pub walk-none : (a : Along) (s inputs rows : List ℕ) → LanesOnGrid (a .w) s inputs → Walked a s inputs rows rows inputs 0
-walk-none a s inputs rows g =
-    record { long = refl; longRows = refl; fronts = λ i l h b. refl; onGrid = g; held = λ l x z. absurd (omega arith) }
-
-abbrev pub SavedTo : Along → List ℕ → List ℕ → List ℕ → ℕ → ℕ → Type 0
-SavedTo a s inputs saved r t =
-    (l : ℕ) (x : List ℕ) → l < r → Front (a .w) (a .d) inputs l x → Last (a .d) t x → Shown (a .w) s x saved l (getD x (a .d - 1) 0)
-
--- a round of a file: the last input becomes t, and the rows are refreshed
-module _
-    {a : Along} {s inputs₀ list : List ℕ} (k : AlongLine a s inputs₀ list) (sound : Accepted s) {before rows inputs inputs' : List ℕ} {t : ℕ}
-    (was : Walked a s inputs₀ before rows inputs t) (below : t < a .u) (filled : Written (a .w) inputs inputs' (a .d - 1) (λ l. t))
-  where
-    pub walk-grid : LanesOnGrid (a .w) s inputs'
-    walk-grid = filled-on-grid (a .w) s (a .d) inputs inputs' t (k .inputCount) (omega (arith, k .axis)) filled (was .onGrid)
-
-    module _ (rows' : List ℕ) (run : Refreshed a s inputs' rows rows' list t) where
-      pub walk-now : (l : ℕ) (x : List ℕ) → l < (a .w) → Front (a .w) (a .d) inputs₀ l x → getD x ((a .d) - 1) 0 ≡ t → HeldTo (a .w) s x rows' l (a .n)
-      walk-now =
-          refreshed (a .w) (a .d) inputs₀ inputs inputs' t (omega (arith, k .inputCount, sound .inputsLow)) (omega (arith, k .inputCount, sound .inputsHigh))
-          (was .fronts) filled s (a .n) (a .u) rows rows' list (a .count) (k .inputCount) run (k .rest) (was .held)
-
-      pub walk-more : length inputs' ≡ length inputs → length rows' ≡ length rows → Walked a s inputs₀ before rows' inputs' (t + 1)
-      walk-more e e' =
-          record {
-            long = e ∙ was .long;
-            longRows = e' ∙ was .longRows;
-            fronts =
-                fronts-kept (a .w) (a .d) inputs₀ inputs inputs' t (omega (arith, k .inputCount, sound .inputsLow))
-                (omega (arith, k .inputCount, sound .inputsHigh)) (was .fronts) filled;
-            onGrid = walk-grid;
-            held = λ l x some g f q. walk-now l x g f (omega arith);
-          }
-
-      now-shown : (a .n) ≡ stepCount s → (l : ℕ) (x : List ℕ) → l < (a .w) → Front (a .w) (a .d) inputs₀ l x → getD x ((a .d) - 1) 0 ≡ t → Shown (a .w) s x rows' l ((a .n) - 1)
-      now-shown e l x g f q = lane-output (a .w) s x rows' l (a .n) e (walk-now l x g f q ((a .n) - 1) (omega (arith, sound .countLow)))
-
-      -- the output row is saved
-      pub save-more :
-          (saved saved' : List ℕ) → (a .n) ≡ stepCount s → SavedTo a s inputs₀ saved (a .w) t → Written (a .w) saved saved' t (lane (a .w) rows' ((a .n) - 1)) →
-          SavedTo a s inputs₀ saved' (a .w) (t + 1)
-      save-more saved saved' e old wr l x g f h =
-          let m = sizesOf s .m in
-          elim (ℕ-discrete (getD x ((a .d) - 1) 0) t) [
-            | yes q ↦ rw q (ap (λ v. v % 2 ^ m) (wr .row l g) ∙ now-shown e l x g f q)
-            | no q ↦ ap (λ v. v % 2 ^ m) (wr .others (getD x ((a .d) - 1) 0) l g q) ∙ old l x g f (omega arith)
-          ]
-
-      -- the output row is compared with the saved one
-      pub match-more :
-          (saved : List ℕ) (m r b : ℕ) → (a .n) ≡ stepCount s → m ≡ sizesOf s .m → r ≤ (a .w) → SavedTo a s inputs₀ saved r t →
-          b ≡ first (unequal (a .w) m saved t rows' ((a .n) - 1)) 0 r → (b ≤ r) × SavedTo a s inputs₀ saved b (t + 1)
-      match-more saved m r b e em few old found = (fewer, more)
-        where
-          fewer : b ≤ r
-          fewer = omega (arith, found, first-high (unequal (a .w) m saved t rows' ((a .n) - 1)) 0 r)
-
-          more : SavedTo a s inputs₀ saved b (t + 1)
-          more l x g f h =
-              elim (ℕ-discrete (getD x ((a .d) - 1) 0) t) [
-                | yes q ↦
-                    let same = first-before (unequal (a .w) (sizesOf s .m) saved t rows' ((a .n) - 1)) 0 r l (omega arith)
-                    (omega (arith, found ∙ ap (λ j. first (unequal (a .w) j saved t rows' ((a .n) - 1)) 0 r) em)) in
-                    rw q (lanes-equal (a .w) (sizesOf s .m) saved t rows' ((a .n) - 1) l same ∙ now-shown e l x (omega (arith, fewer)) f q)
-                | no q ↦ old l x (omega (arith, fewer)) f (omega arith)
-              ]

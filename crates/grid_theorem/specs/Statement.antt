@@ -1,8 +1,10 @@
--- The grid theorem, for every output word length m from 1 to 64, all word lengths and all steps. It is proved in proofs/Grid.
---   settled   the outputs agree at every full-width vector exactly where they agree at every vector of the grid
---   none      no place of the grid differs: they agree at every full-width vector
---   some      some place does: the vector at the first of these lies on the grid, and is the first of all full-width vectors at which
---             the outputs differ
+-- The grid theorem. It is proved in proofs/Grid.
+--   GridTheorem   what OnGrid says, for every output word length m from 1 to 64, all word lengths and all steps
+--   OnGrid        of two datapaths and their grid:
+--     settled   the outputs agree at every full-width vector exactly where they agree at every vector of the grid
+--     none      no place of the grid differs: they agree at every full-width vector
+--     some      some place does: the vector at the first of these lies on the grid, and is the first of all full-width vectors at which
+--               the outputs differ
 use mathlib.Core.Path.{_≡_}
 use mathlib.Core.Logic.{_↔_}
 use mathlib.Core.List.{List}

@@ -13,8 +13,9 @@ ghost use lib.ListN.{length};
 ghost use Rattle.file.specs.Long.{longestFile};
 ghost use Rattle.reading.specs.Reading.{noneOrTwo, ReadWhole};
 
-// Reads into the buffer, read after read: after_read says of each whether it ends reading, and as what; else reading goes on until the buffer is full.
-// The bytes that count stand at the start of the buffer: none where a read failed, all of them where it is full.
+// Reads into the buffer, read after read: after_read says of each whether it ends reading, and as what; else reading
+// goes on until the buffer is full. The bytes that count stand at the start of the buffer: none where a read failed,
+// all of them where it is full.
 fn read_to_end(fd: i32, buf: &mut [u8]) -> Reading
     requires { ⌜ longestFile < length (now buf) ⌝ }
     ensures { λ r. ⌜ ReadWhole (now (buf .exit)) (r .count) (r .end) ⌝ }
@@ -35,8 +36,8 @@ fn read_to_end(fd: i32, buf: &mut [u8]) -> Reading
     }
 }
 
-// Reads the file of that name. One that can't be read, where opening it or some read fails, gives no bytes, and is named on standard error. The buffer has
-// room for one byte more than the longest file that is accepted.
+// Reads the file of that name. One that can't be read, where opening it or some read fails, gives no bytes, and is
+// named on standard error. The buffer has room for one byte more than the longest file that is accepted.
 fn read_file(path: &[u8], buf: &mut [u8]) -> Reading
     requires { ⌜ longestFile < length (now buf) ⌝ }
     ensures { λ r. ⌜ ReadWhole (now (buf .exit)) (r .count) (r .end) ⌝ }
@@ -77,8 +78,8 @@ fn read_argument(i: usize, buf: &mut [u8]) -> Reading
     read_file(&path[..n], buf)
 }
 
-// Reads the file that argument i names where there are two, or where there is none the one called `name`. With another count of arguments nothing
-// is read.
+// Reads the file that argument i names where there are two, or where there is none the one called `name`. With
+// another count of arguments nothing is read.
 pub fn read_input(count: usize, i: usize, name: &[u8], buf: &mut [u8]) -> Reading
     requires { ⌜ noneOrTwo count ≡ true ⌝ }
     requires { ⌜ longestFile < length (now buf) ⌝ }

@@ -14,10 +14,10 @@ pub remainder-pos : (a M : ℕ) → remainder (pos a) M ≡ a % M
 unfolding remainder
 remainder-pos a M = refl
 
-pub remainder-lt : (a : ℤ) (M : ℕ) → 0 < M → remainder a M < M
+pub remainder-most : (a : ℤ) (M : ℕ) → 0 < M → remainder a M < M
 unfolding remainder
-remainder-lt (pos a) M h = mod-lt a h
-remainder-lt (negsuc a) M h = omega arith
+remainder-most (pos a) M h = mod-lt a h
+remainder-most (negsuc a) M h = omega arith
 
 pub remainder-divides : (a : ℤ) (M : ℕ) → 0 < M → Divides M (a -ℤ pos (remainder a M))
 unfolding remainder
@@ -30,7 +30,7 @@ remainder-divides (negsuc a) M h =
     }
 
 pub remainders : Remainders
-remainders a M h = record { below = remainder-lt a M h; exact = remainder-divides a M h }
+remainders a M h = record { below = remainder-most a M h; exact = remainder-divides a M h }
 
 -- two numbers below M that differ by a multiple of M are equal
 below-equal : (M r s : ℕ) → r < M → s < M → Divides M (pos r -ℤ pos s) → r ≡ s
@@ -46,7 +46,7 @@ below-equal M r s g h p = at (p .quotient) (p .exact)
 
 pub remainder-unique : (a : ℤ) (M r : ℕ) → r < M → Divides M (a -ℤ pos r) → remainder a M ≡ r
 remainder-unique a M r h p =
-    below-equal M (remainder a M) r (remainder-lt a M (omega arith)) h
+    below-equal M (remainder a M) r (remainder-most a M (omega arith)) h
     (subst (Divides M) (between a (pos r) (pos (remainder a M))) (divides-sub p (remainder-divides a M (omega arith))))
   where
     between : (a b c : ℤ) → (a -ℤ b) -ℤ (a -ℤ c) ≡ c -ℤ b
@@ -54,7 +54,7 @@ remainder-unique a M r h p =
 
 pub congruent→equal : (a b : ℤ) (M : ℕ) → 0 < M → Divides M (a -ℤ b) → remainder a M ≡ remainder b M
 congruent→equal a b M h p =
-    remainder-unique a M (remainder b M) (remainder-lt b M h)
+    remainder-unique a M (remainder b M) (remainder-most b M h)
     (subst (Divides M) (through a b (pos (remainder b M))) (divides-add p (remainder-divides b M h)))
   where
     through : (a b c : ℤ) → (a -ℤ b) +ℤ (b -ℤ c) ≡ a -ℤ c
@@ -82,7 +82,7 @@ pub remainder-sub : (a b : ℤ) (M : ℕ) → 0 < M → remainder (a -ℤ b) M �
 unfolding remainder
 remainder-sub a b M h =
     congruent→equal (a -ℤ b) (pos (remainder a M + (M - remainder b M))) M h
-    (subst (Divides M) (regroup a b (remainder a M) (remainder b M) (remainder-lt b M h))
+    (subst (Divides M) (regroup a b (remainder a M) (remainder b M) (remainder-most b M h))
     (divides-sub (divides-sub (remainder-divides a M h) (remainder-divides b M h)) (divides-self M)))
   where
     regroup : (a b : ℤ) (r s : ℕ) → s < M → (a -ℤ pos r) -ℤ (b -ℤ pos s) -ℤ pos M ≡ (a -ℤ b) -ℤ pos (r + (M - s))

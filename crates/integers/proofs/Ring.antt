@@ -122,14 +122,11 @@ pub *ℤ-left-comm : (a b c : ℤ) → a *ℤ (b *ℤ c) ≡ b *ℤ (a *ℤ c)
 pub *ℤ-distribl : (a b c : ℤ) → a *ℤ (b +ℤ c) ≡ a *ℤ b +ℤ a *ℤ c
 *ℤ-distribl = ring₃ _ λ m n k l i j. simp sub-push (sub-eq _ _ _ _ (omega arith))
 
-pub *ℤ-distribr : (a b c : ℤ) → (a +ℤ b) *ℤ c ≡ a *ℤ c +ℤ b *ℤ c
-*ℤ-distribr = ring₃ _ λ m n k l i j. simp sub-push (sub-eq _ _ _ _ (omega arith))
-
 pub *ℤ-negr : (a b : ℤ) → a *ℤ negℤ b ≡ negℤ (a *ℤ b)
 *ℤ-negr = ring₂ _ λ m n k l. simp sub-push (sub-eq _ _ _ _ (omega arith))
 
-pub *ℤ-negl : (a b : ℤ) → negℤ a *ℤ b ≡ negℤ (a *ℤ b)
-*ℤ-negl = ring₂ _ λ m n k l. simp sub-push (sub-eq _ _ _ _ (omega arith))
+pub +ℤ-opposite : (a b : ℤ) → a +ℤ negsuc 0 *ℤ b ≡ a -ℤ b
++ℤ-opposite = ring₂ _ λ m n k l. simp sub-push (sub-eq _ _ _ _ (omega arith))
 
 pub *ℤ-idl : (a : ℤ) → pos 1 *ℤ a ≡ a
 *ℤ-idl = ring₁ _ λ m n. simp sub-push (sub-eq _ _ _ _ (omega arith))

@@ -9,7 +9,7 @@ use lib.ListN.{length}
 use Rattle.dependence.specs.Dependence.{valueAt}
 use Rattle.evaluate.specs.Evaluate.{outputOf}
 use Rattle.fields.specs.File.{sizesOf, stepCount}
-use Rattle.fields.proofs.Steps.{steps-length}
+use Rattle.fields.proofs.Steps.{length-steps}
 use Rattle.rows.specs.Rows.{maxLanes, lane}
 use Rattle.datapath.specs.Steps.{exact, output}
 use Rattle.lanes.specs.Lanes.{fewLanes, Width, Held, Shown, Room}
@@ -33,4 +33,4 @@ room-kept e r =
 -- what a lane of the last row holds, cut to m bits, is the output
 pub lane-output : (w : ℕ) (s x rows : List ℕ) (l n : ℕ) → n ≡ stepCount s → Held w s x rows l (n - 1) → Shown w s x rows l (n - 1)
 unfolding valueAt outputOf output exact
-lane-output w s x rows l n e h = h ∙ rw (steps-length s, e)
+lane-output w s x rows l n e h = h ∙ rw (length-steps s, e)

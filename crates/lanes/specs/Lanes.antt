@@ -8,7 +8,7 @@
 --   Shown w s x rows l k                        lane l of row k is the output at x, modulo 2^m
 --   Room w s n inputs rows                      the rows have such a width, the file s is accepted and has n steps, and the slices have a row for each
 --                                               input and each step
---   OnGrid s x                                  the vector x is on the grid of the file s: each of its first d values is below its axis
+--   VectorOnGrid s x                            the vector x is on the grid of the file s: each of its first d values is below its axis
 --   LanesOnGrid w s inputs                      in every lane the input rows hold such a vector
 --   Product w m before after k a b              only row k was written: in a lane in which rows a and b stand for u and v modulo 2^m, row k
 --                                               stands for their product
@@ -30,7 +30,7 @@ use Rattle.file.specs.Accepted.{Accepted}
 use Rattle.fields.specs.File.{sizesOf, stepCount}
 use Rattle.grid.specs.Grid.{axesOf}
 use Rattle.integers.specs.Modulo.{remainder}
-use Rattle.rows.specs.Rows.{maxLanes, lane}
+use Rattle.rows.specs.Rows.{maxLanes, lane, OthersKept}
 
 abbrev pub fewLanes : ℕ
 fewLanes = 8
@@ -60,8 +60,8 @@ pub record Room (w : ℕ) (s : List ℕ) (n : ℕ) (inputs rows : List ℕ) : Ty
   pub inputRows : w * sizesOf s .d ≤ length inputs
   pub stepRows : w * n ≤ length rows
 
-abbrev pub OnGrid : List ℕ → List ℕ → Type 0
-OnGrid s x = (i : ℕ) → i < sizesOf s .d → getD x i 0 < getD (axesOf (sizesOf s)) i 0
+abbrev pub VectorOnGrid : List ℕ → List ℕ → Type 0
+VectorOnGrid s x = (i : ℕ) → i < sizesOf s .d → getD x i 0 < getD (axesOf (sizesOf s)) i 0
 
 abbrev pub LanesOnGrid : ℕ → List ℕ → List ℕ → Type 0
 LanesOnGrid w s inputs = (i l : ℕ) → i < sizesOf s .d → l < w → lane w inputs i l < getD (axesOf (sizesOf s)) i 0
@@ -69,11 +69,11 @@ LanesOnGrid w s inputs = (i l : ℕ) → i < sizesOf s .d → l < w → lane w i
 pub record Product (w m : ℕ) (before after : List ℕ) (k a b : ℕ) : Type 0 where
   pub row :
       (l : ℕ) (u v : ℤ) → l < w → StandsFor m (lane w before a l) u → StandsFor m (lane w before b l) v → StandsFor m (lane w after k l) (u *ℤ v)
-  pub others : (i l : ℕ) → l < w → ¬ (i ≡ k) → lane w after i l ≡ lane w before i l
+  pub others : OthersKept w before after k
 
 pub record Stepped (w : ℕ) (s inputs before after : List ℕ) (k : ℕ) : Type 0 where
   pub row : (l : ℕ) (x : List ℕ) → l < w → Reads w s inputs l x → HeldTo w s x before l k → Held w s x after l k
-  pub others : (i l : ℕ) → l < w → ¬ (i ≡ k) → lane w after i l ≡ lane w before i l
+  pub others : OthersKept w before after k
 
 abbrev pub AllRun : ℕ → List ℕ → ℕ → List ℕ → List ℕ → Type 0
 AllRun w s n inputs after = (l : ℕ) (x : List ℕ) → l < w → Reads w s inputs l x → HeldTo w s x after l n

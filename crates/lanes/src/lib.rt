@@ -1,5 +1,6 @@
-// The steps of an accepted file run at several vectors at once, a lane of the rows for each: all steps, or those alone that depend on one input.
-// The loops over the steps are called with the constants LANES and FEW_LANES, so that they are compiled for each.
+// The steps of an accepted file run at several vectors at once, a lane of the rows for each: all steps, or those
+// alone that depend on one input. The loops over the steps are called with the constants LANES and FEW_LANES, so that
+// they are compiled for each.
 use datapath::Step;
 use fields::output_length;
 use fields::step_at;
@@ -18,7 +19,8 @@ ghost use Rattle.lanes.specs.Lanes.{Room, LanesOnGrid, Product, Stepped,
 // The lanes of a narrow row, for files of many steps.
 pub const FEW_LANES: usize = 8;
 
-// Row k becomes the product of the earlier rows a and b modulo 2^m. Where m is 32 or less it is taken of the low 32 bits.
+// Row k becomes the product of the earlier rows a and b modulo 2^m. Where m is 32 or less it is taken of the low 32
+// bits.
 fn product_row(m: u64, rows: &mut [u64], k: usize, a: usize, b: usize, w: usize)
     requires { ⌜ m ≤ 64 ⌝ }
     requires { ⌜ Operands w (now rows) k a b ⌝ }
@@ -31,7 +33,8 @@ fn product_row(m: u64, rows: &mut [u64], k: usize, a: usize, b: usize, w: usize)
     multiply_rows(rows, k, a, b, w);
 }
 
-// Row k becomes the value of step k modulo 2^m, in each lane in which the rows before it hold the values of the steps before.
+// Row k becomes the value of step k modulo 2^m, in each lane in which the rows before it hold the values of the steps
+// before.
 fn step_row(file: &[u8], n: usize, inputs: &[u64], rows: &mut [u64], k: usize, w: usize)
     requires { ⌜ Room w (now file) n (now inputs) (now rows) ⌝ }
     requires { ⌜ k < n ⌝ }
@@ -101,8 +104,9 @@ fn listed_rows(
     }
 }
 
-// The rows of the listed steps alone are computed again. Where the rows hold the values at a vector, and every step that is not listed does not
-// depend on input j, they then hold the values at a vector that differs from it in input j.
+// The rows of the listed steps alone are computed again. Where the rows hold the values at a vector, and every step
+// that is not listed does not depend on input j, they then hold the values at a vector that differs from it in input
+// j.
 pub fn run_listed(
     file: &[u8],
     n: usize,

@@ -1,5 +1,5 @@
 -- Answers as words: the first five are the refusal, the kind, whose word is one of four, and the count; then come the vector and two more.
--- A vector that is shown is one of the grid's, held in maxInputs entries. Assumes nothing.
+-- A vector that is shown is one of the grid's, padded to maxInputs entries. Assumes nothing.
 use mathlib.Core.Bool.{true, false}
 use mathlib.Core.List.{List, [], _∷_, _++_}
 use mathlib.Core.Logic.{⊎-elim}
@@ -7,25 +7,26 @@ use mathlib.Core.Path.{_≡_, refl, _∙_, ap}
 use Prim.Native.Nat.{ℕ, zero, suc, _+_, _-_, _≤_, min}
 use native.Mathlib.Omega.{arith}
 use lib.Dec.{leb, ltb}
-use lib.ListN.{length, getD, take, length-append, length-take, length-map, length-replicate}
+use lib.ListN.{length, getD, take, length-append}
 use Rattle.fields.specs.File.{sizesOf}
 use Rattle.grid.specs.Grid.{axesOf}
+use Rattle.grid.proofs.Grids.{length-axes-most}
 use Rattle.places.specs.Places.{vectorAt}
+use Rattle.places.proofs.Places.{length-vector}
 use Rattle.ranges.proofs.Search.{true-or-false}
-use Rattle.sessions.specs.Session.{isRefusal, continueRefusal, refusedAnswer, plainAnswer, differsAnswer, progress, advanced, continued}
+use Rattle.sessions.specs.Session.{continueRefusal, refusedAnswer, plainAnswer, differsAnswer, progress, advanced, continued}
 use Rattle.sessions.specs.declared.Answer.{Answer}
 use Rattle.sessions.specs.declared.Kind.{Kind}
 use Rattle.sessions.specs.declared.Kind.the-variants.{Refused, Spent, Equivalent, Differs}
 use Rattle.sessions.specs.declared.Session.{Session}
 use Rattle.sessions.proofs.Cases.{passed}
 use Rattle.sessions.proofs.Pair.{comparable}
-use Rattle.sizes.specs.Sizes.{maxInputs}
-use Rattle.sizes.specs.declared.Sizes.{Sizes}
-use Rattle.vectors.specs.Vectors.{held}
+use Rattle.sizes.specs.Sizes.{maxInputs, isRefusal}
+use Rattle.vectors.proofs.Padded.{length-padded}
 use Rattle.layouts.specs.AnswerWords.{kindWord, kindFrom, answerWords, answerFrom}
-use Rattle.layouts.specs.Lengths.{word, atKind, answerLength}
+use Rattle.layouts.specs.Lengths.{wordAt, atKind, answerLength}
 use Rattle.layouts.specs.Statement.{WholeVector, AnswersAsWords}
-use Rattle.layouts.proofs.Entries.{two-more, front, next, last}
+use Rattle.layouts.proofs.Entries.{two-last, front, next, last}
 use Rattle.layouts.proofs.Told.{AnswerTold, answer-told, answer-fits}
 
 kind-decoded : (k : Kind) → kindFrom (kindWord k) ≡ k
@@ -35,12 +36,12 @@ kind-decoded Spent = refl
 kind-decoded Equivalent = refl
 kind-decoded Differs = refl
 
-kind-small : (k : Kind) → kindWord k ≤ 3
+kind-most : (k : Kind) → kindWord k ≤ 3
 unfolding kindWord
-kind-small Refused = omega arith
-kind-small Spent = omega arith
-kind-small Equivalent = omega arith
-kind-small Differs = omega arith
+kind-most Refused = omega arith
+kind-most Spent = omega arith
+kind-most Equivalent = omega arith
+kind-most Differs = omega arith
 
 kind-restored : (k : ℕ) → k ≤ 3 → kindWord (kindFrom k) ≡ k
 unfolding kindWord kindFrom
@@ -59,19 +60,19 @@ split (n ∷ f ∷ s ∷ []) t = absurd (omega (arith, t .long))
 split (n ∷ f ∷ s ∷ k ∷ []) t = absurd (omega (arith, t .long))
 split (n ∷ f ∷ s ∷ k ∷ r ∷ l) t =
     ap (λ j. n ∷ f ∷ s ∷ j ∷ r ∷ (take maxInputs l ++ (getD l maxInputs 0 ∷ getD l (maxInputs + 1) 0 ∷ []))) (kind-restored k (t .kind))
-    ∙ ap (λ j. n ∷ f ∷ s ∷ k ∷ r ∷ j) (two-more maxInputs l (omega (arith, t .long)))
+    ∙ ap (λ j. n ∷ f ∷ s ∷ k ∷ r ∷ j) (two-last maxInputs l (omega (arith, t .long)))
 
 module _ (a : Answer) (whole : WholeVector a) where
-  answer-length : length (answerWords a) ≡ answerLength
+  length-answer : length (answerWords a) ≡ answerLength
   unfolding answerWords
-  answer-length = simp length-append (omega (arith, whole))
+  length-answer = simp length-append (omega (arith, whole))
 
-  kind-at : word (answerWords a) atKind ≤ 3
+  kind-at : wordAt (answerWords a) atKind ≤ 3
   unfolding answerWords
-  kind-at = kind-small (a .kind)
+  kind-at = kind-most (a .kind)
 
   fit : AnswerTold (answerWords a)
-  fit = record { long = answer-length; kind = kind-at }
+  fit = record { long = length-answer; kind = kind-at }
 
   again : answerFrom (answerWords a) ≡ a
   unfolding answerWords answerFrom
@@ -86,40 +87,28 @@ module _ (a : Answer) (whole : WholeVector a) where
         output2 = last maxInputs (a .vector) (a .output1) (a .output2) whole i;
       }
 
-vector-length : (us : List ℕ) (p : ℕ) → length (vectorAt us p) ≡ length us
-unfolding vectorAt
-vector-length [] p = refl
-vector-length (u ∷ us) p = ap suc (vector-length us _)
-
-axes-length : (z : Sizes) → z .d ≤ maxInputs → length (axesOf z) ≤ maxInputs
-unfolding axesOf
-axes-length z h = simp (length-map, length-take) (omega arith)
-
-held-length : (x : List ℕ) → length x ≤ maxInputs → length (held x) ≡ maxInputs
-held-length x h = simp (length-append, length-replicate) (omega arith)
-
 progress-vector :
-    (s₁ s₂ : List ℕ) (z : Session) (B G q : ℕ) → sizesOf s₁ .d ≤ maxInputs → WholeVector (progress s₁ s₂ z B G q .answer)
+    (s₁ s₂ : List ℕ) (σ : Session) (B G q : ℕ) → sizesOf s₁ .d ≤ maxInputs → WholeVector (progress s₁ s₂ σ B G q .answer)
 unfolding progress differsAnswer plainAnswer
-progress-vector s₁ s₂ z B G q high =
+progress-vector s₁ s₂ σ B G q high =
     ⊎-elim
-    (λ (e : ltb q (z .position + min B (G - z .position)) ≡ true).
-    rw e (held-length (vectorAt (axesOf (sizesOf s₁)) q) (omega (arith, vector-length (axesOf (sizesOf s₁)) q, axes-length (sizesOf s₁) high))))
-    (λ (e : ltb q (z .position + min B (G - z .position)) ≡ false).
+    (λ (e : ltb q (σ .position + min B (G - σ .position)) ≡ true).
+    rw e (length-padded (vectorAt (axesOf (sizesOf s₁)) q) (omega (arith, length-vector (axesOf (sizesOf s₁)) q, length-axes-most (sizesOf s₁)))))
+    (λ (e : ltb q (σ .position + min B (G - σ .position)) ≡ false).
     ⊎-elim
-    (λ (h : leb G (z .position + B) ≡ true). rw (e, h))
-    (λ (h : leb G (z .position + B) ≡ false). rw (e, h))
-    (true-or-false (leb G (z .position + B))))
-    (true-or-false (ltb q (z .position + min B (G - z .position))))
+    (λ (h : leb G (σ .position + B) ≡ true). rw (e, h))
+    (λ (h : leb G (σ .position + B) ≡ false). rw (e, h))
+    (true-or-false (leb G (σ .position + B))))
+    (true-or-false (ltb q (σ .position + min B (G - σ .position))))
 
-continued-vector : (f₁ f₂ : List ℕ) (z : Session) (B len : ℕ) → WholeVector (continued f₁ f₂ z B len .answer)
+continued-vector : (f₁ f₂ : List ℕ) (σ : Session) (B len : ℕ) → WholeVector (continued f₁ f₂ σ B len .answer)
 unfolding continued advanced refusedAnswer
-continued-vector f₁ f₂ z B len =
+continued-vector f₁ f₂ σ B len =
     ⊎-elim
-    (λ (e : isRefusal (continueRefusal f₁ f₂ z B len) ≡ true). rw e)
-    (λ (e : isRefusal (continueRefusal f₁ f₂ z B len) ≡ false).
-    rw e (progress-vector f₁ f₂ z B _ _ (comparable f₁ f₂ (passed f₁ f₂ z B len e .pair) .sound₁ .inputsHigh)))
-    (true-or-false (isRefusal (continueRefusal f₁ f₂ z B len)))
+    (λ (e : isRefusal (continueRefusal f₁ f₂ σ B len) ≡ true). rw e)
+    (λ (e : isRefusal (continueRefusal f₁ f₂ σ B len) ≡ false).
+    rw e (progress-vector f₁ f₂ σ B _ _ (comparable f₁ f₂ (passed f₁ f₂ σ B len e .pair) .sound₁ .inputsHigh)))
+    (true-or-false (isRefusal (continueRefusal f₁ f₂ σ B len)))
 
 pub answersAsWords : AnswersAsWords
 answersAsWords =

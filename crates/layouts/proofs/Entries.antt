@@ -7,15 +7,15 @@ use lib.ListN.{length, getD, take, set}
 use lib.Seq.{take-at, getD-at, getD-append-add}
 
 -- n entries and the two after them
-pub two-more : (n : ℕ) (l : List ℕ) → length l ≡ n + 2 → take n l ++ (getD l n 0 ∷ getD l (n + 1) 0 ∷ []) ≡ l
-two-more zero [] e = absurd (omega arith)
-two-more zero (x ∷ []) e = absurd (omega arith)
-two-more zero (x ∷ y ∷ []) e = refl
-two-more zero (x ∷ y ∷ z ∷ l) e = absurd (omega arith)
-two-more (suc n) [] e = absurd (omega arith)
-two-more (suc n) (x ∷ l) e =
+pub two-last : (n : ℕ) (l : List ℕ) → length l ≡ n + 2 → take n l ++ (getD l n 0 ∷ getD l (n + 1) 0 ∷ []) ≡ l
+two-last zero [] e = absurd (omega arith)
+two-last zero (x ∷ []) e = absurd (omega arith)
+two-last zero (x ∷ y ∷ []) e = refl
+two-last zero (x ∷ y ∷ z ∷ l) e = absurd (omega arith)
+two-last (suc n) [] e = absurd (omega arith)
+two-last (suc n) (x ∷ l) e =
     let q : suc n + 1 ≡ suc (n + 1) = omega arith in
-    ap (λ j. x ∷ (take n l ++ (getD l n 0 ∷ getD (x ∷ l) j 0 ∷ []))) q ∙ ap (λ k. x ∷ k) (two-more n l (omega arith))
+    ap (λ j. x ∷ (take n l ++ (getD l n 0 ∷ getD (x ∷ l) j 0 ∷ []))) q ∙ ap (λ k. x ∷ k) (two-last n l (omega arith))
 
 -- n entries, and two that are written after them
 pub two-written :

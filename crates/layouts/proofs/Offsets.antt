@@ -23,16 +23,16 @@ unfolding sizeWords
 sizes-places z e =
     record { count = omega (arith, e); m = refl; d = refl; widths = take-all maxInputs (z .widths) (omega (arith, e)) }
 
-session-places : (z : Session) → WholeWidths (z .sizes) → SessionPlaces z
+session-places : (σ : Session) → WholeWidths (σ .sizes) → SessionPlaces σ
 unfolding sessionWords sizeWords
-session-places z e =
+session-places σ e =
     record {
       count = simp length-append (omega (arith, e));
       m = refl;
       d = refl;
-      widths = front maxInputs (z .sizes .widths) (z .position) (markWord (z .mark)) e;
-      position = next maxInputs (z .sizes .widths) (z .position) (markWord (z .mark)) e;
-      mark = last maxInputs (z .sizes .widths) (z .position) (markWord (z .mark)) e;
+      widths = front maxInputs (σ .sizes .widths) (σ .position) (markWord (σ .mark)) e;
+      position = next maxInputs (σ .sizes .widths) (σ .position) (markWord (σ .mark)) e;
+      mark = last maxInputs (σ .sizes .widths) (σ .position) (markWord (σ .mark)) e;
     }
 
 answer-places : (a : Answer) → WholeVector a → AnswerPlaces a

@@ -12,18 +12,18 @@ use lib.ListN.{length, getD, take, length-append, length-take, length-drop, leng
 use Rattle.file.specs.Accepted.{Accepted}
 use Rattle.fields.specs.File.{headLength, sizesOf}
 use Rattle.ranges.proofs.Search.{true-or-false}
-use Rattle.sessions.specs.Session.{isRefusal, pairRefusal, noSession, opened, continueRefusal, progress, advanced, continued}
+use Rattle.sessions.specs.Session.{pairRefusal, noSession, opened, continueRefusal, progress, advanced, continued}
 use Rattle.sessions.specs.declared.Mark.{Mark}
 use Rattle.sessions.specs.declared.Mark.the-variants.{Open, Equal, Differ}
 use Rattle.sessions.specs.declared.Session.{Session}
 use Rattle.sessions.proofs.Pair.{comparable}
-use Rattle.sizes.specs.Sizes.{maxInputs}
-use Rattle.layouts.specs.Lengths.{word, sizesLength, atPosition, atMark, sessionLength}
+use Rattle.sizes.specs.Sizes.{maxInputs, isRefusal}
+use Rattle.layouts.specs.Lengths.{wordAt, sizesLength, atPosition, atMark, sessionLength}
 use Rattle.layouts.specs.SessionWords.{markWord, markFrom, sessionWords, sessionFrom}
 use Rattle.layouts.specs.SizeWords.{sizeWords, sizesFrom, ByteSizes}
-use Rattle.layouts.specs.Statement.{Held, SessionsAsWords}
-use Rattle.layouts.proofs.Entries.{two-more, front, next, last}
-use Rattle.layouts.proofs.Sizes.{given-bytes, words-small}
+use Rattle.layouts.specs.Statement.{ByteSession, SessionsAsWords}
+use Rattle.layouts.proofs.Entries.{two-last, front, next, last}
+use Rattle.layouts.proofs.Sizes.{given-bytes, size-words-most}
 use Rattle.layouts.proofs.Told.{SessionTold, session-told, session-fits}
 
 -- a mark's word gives the mark, and is at most 2; a word of 0 to 2 is that of the mark it gives
@@ -33,11 +33,11 @@ mark-decoded Open = refl
 mark-decoded Equal = refl
 mark-decoded Differ = refl
 
-mark-small : (k : Mark) → markWord k ≤ 2
+mark-most : (k : Mark) → markWord k ≤ 2
 unfolding markWord
-mark-small Open = omega arith
-mark-small Equal = omega arith
-mark-small Differ = omega arith
+mark-most Open = omega arith
+mark-most Equal = omega arith
+mark-most Differ = omega arith
 
 mark-restored : (k : ℕ) → k ≤ 2 → markWord (markFrom k) ≡ k
 unfolding markWord markFrom
@@ -52,52 +52,52 @@ split [] t = absurd (omega (arith, t .long))
 split (m ∷ []) t = absurd (omega (arith, t .long))
 split (m ∷ d ∷ l) t =
     ap (λ k. m ∷ d ∷ (take maxInputs l ++ (getD l maxInputs 0 ∷ k ∷ []))) (mark-restored (getD l (maxInputs + 1) 0) (t .mark))
-    ∙ ap (λ k. m ∷ d ∷ k) (two-more maxInputs l (omega (arith, t .long)))
+    ∙ ap (λ k. m ∷ d ∷ k) (two-last maxInputs l (omega (arith, t .long)))
 
-module _ (z : Session) (b : ByteSizes (z .sizes)) where
+module _ (σ : Session) (b : ByteSizes (σ .sizes)) where
   abbrev tail : List ℕ
-  tail = z .position ∷ markWord (z .mark) ∷ []
+  tail = σ .position ∷ markWord (σ .mark) ∷ []
 
-  size-length : length (sizeWords (z .sizes)) ≡ sizesLength
+  length-sizes : length (sizeWords (σ .sizes)) ≡ sizesLength
   unfolding sizeWords
-  size-length = let c = b .count in omega arith
+  length-sizes = let c = b .count in omega arith
 
-  pub position-next : word (sessionWords z) atPosition ≡ z .position
+  pub position-next : wordAt (sessionWords σ) atPosition ≡ σ .position
   unfolding sessionWords
-  position-next = next sizesLength (sizeWords (z .sizes)) (z .position) (markWord (z .mark)) size-length
+  position-next = next sizesLength (sizeWords (σ .sizes)) (σ .position) (markWord (σ .mark)) length-sizes
 
-  pub mark-last : word (sessionWords z) atMark ≡ markWord (z .mark)
+  pub mark-last : wordAt (sessionWords σ) atMark ≡ markWord (σ .mark)
   unfolding sessionWords
-  mark-last = last sizesLength (sizeWords (z .sizes)) (z .position) (markWord (z .mark)) size-length
+  mark-last = last sizesLength (sizeWords (σ .sizes)) (σ .position) (markWord (σ .mark)) length-sizes
 
-  size-small : (i : ℕ) → i < sizesLength → word (sessionWords z) i < 256
+  session-size-most : (i : ℕ) → i < sizesLength → wordAt (sessionWords σ) i < 256
   unfolding sessionWords
-  size-small i l =
-      rw (List·getD-append (sizeWords (z .sizes)) tail 0 i (omega (arith, size-length))) (words-small (z .sizes) b i l)
+  session-size-most i l =
+      rw (List·getD-append (sizeWords (σ .sizes)) tail 0 i (omega (arith, length-sizes))) (size-words-most (σ .sizes) b i l)
 
-  session-length : length (sessionWords z) ≡ sessionLength
+  length-session : length (sessionWords σ) ≡ sessionLength
   unfolding sessionWords
-  session-length = rw (length-append, size-length)
+  length-session = rw (length-append, length-sizes)
 
-  fit : SessionTold (sessionWords z)
+  fit : SessionTold (sessionWords σ)
   fit =
       record {
-        long = session-length;
-        bytes = record { long = omega (arith, session-length); small = size-small };
-        mark = omega (arith, mark-last, mark-small (z .mark));
+        long = length-session;
+        bytes = record { long = omega (arith, length-session); small = session-size-most };
+        mark = omega (arith, mark-last, mark-most (σ .mark));
       }
 
-  again : sessionFrom (sessionWords z) ≡ z
+  again : sessionFrom (sessionWords σ) ≡ σ
   unfolding sessionWords sessionFrom sizeWords sizesFrom
   again =
-      let n = z .sizes .widths in
-      let p = z .position in
-      let k = markWord (z .mark) in
+      let n = σ .sizes .widths in
+      let p = σ .position in
+      let k = markWord (σ .mark) in
       λ i.
       record {
-        sizes = record { m = z .sizes .m; d = z .sizes .d; widths = front maxInputs n p k (b .count) i };
+        sizes = record { m = σ .sizes .m; d = σ .sizes .d; widths = front maxInputs n p k (b .count) i };
         position = next maxInputs n p k (b .count) i;
-        mark = (ap markFrom (last maxInputs n p k (b .count)) ∙ mark-decoded (z .mark)) i;
+        mark = (ap markFrom (last maxInputs n p k (b .count)) ∙ mark-decoded (σ .mark)) i;
       }
 
 -- a head has all the word lengths
@@ -119,7 +119,7 @@ file-bytes s a =
           ];
     }
 
-zero-bytes : Held noSession
+zero-bytes : ByteSession noSession
 unfolding noSession
 zero-bytes =
     record {
@@ -129,7 +129,7 @@ zero-bytes =
       width = λ i l. rw (getD-replicate {A = ℕ} maxInputs i 0 0 l) (omega arith);
     }
 
-opened-bytes : (f₁ f₂ : List ℕ) → Held (opened f₁ f₂ .session)
+opened-bytes : (f₁ f₂ : List ℕ) → ByteSession (opened f₁ f₂ .session)
 unfolding opened
 opened-bytes f₁ f₂ =
     ⊎-elim
@@ -138,34 +138,34 @@ opened-bytes f₁ f₂ =
     (true-or-false (isRefusal (pairRefusal f₁ f₂)))
 
 -- a continue call keeps the sizes
-progress-sizes : (s₁ s₂ : List ℕ) (z : Session) (B G q : ℕ) → progress s₁ s₂ z B G q .session .sizes ≡ z .sizes
+progress-sizes : (s₁ s₂ : List ℕ) (σ : Session) (B G q : ℕ) → progress s₁ s₂ σ B G q .session .sizes ≡ σ .sizes
 unfolding progress
-progress-sizes s₁ s₂ z B G q =
+progress-sizes s₁ s₂ σ B G q =
     ⊎-elim
-    (λ (e : ltb q (z .position + min B (G - z .position)) ≡ true). rw e)
-    (λ (e : ltb q (z .position + min B (G - z .position)) ≡ false).
+    (λ (e : ltb q (σ .position + min B (G - σ .position)) ≡ true). rw e)
+    (λ (e : ltb q (σ .position + min B (G - σ .position)) ≡ false).
     ⊎-elim
-    (λ (h : leb G (z .position + B) ≡ true). rw (e, h))
-    (λ (h : leb G (z .position + B) ≡ false). rw (e, h))
-    (true-or-false (leb G (z .position + B))))
-    (true-or-false (ltb q (z .position + min B (G - z .position))))
+    (λ (h : leb G (σ .position + B) ≡ true). rw (e, h))
+    (λ (h : leb G (σ .position + B) ≡ false). rw (e, h))
+    (true-or-false (leb G (σ .position + B))))
+    (true-or-false (ltb q (σ .position + min B (G - σ .position))))
 
-continued-sizes : (f₁ f₂ : List ℕ) (z : Session) (B len : ℕ) → continued f₁ f₂ z B len .session .sizes ≡ z .sizes
+continued-sizes : (f₁ f₂ : List ℕ) (σ : Session) (B len : ℕ) → continued f₁ f₂ σ B len .session .sizes ≡ σ .sizes
 unfolding continued advanced
-continued-sizes f₁ f₂ z B len =
+continued-sizes f₁ f₂ σ B len =
     ⊎-elim
-    (λ (e : isRefusal (continueRefusal f₁ f₂ z B len) ≡ true). rw e)
-    (λ (e : isRefusal (continueRefusal f₁ f₂ z B len) ≡ false). rw e (progress-sizes f₁ f₂ z B _ _))
-    (true-or-false (isRefusal (continueRefusal f₁ f₂ z B len)))
+    (λ (e : isRefusal (continueRefusal f₁ f₂ σ B len) ≡ true). rw e)
+    (λ (e : isRefusal (continueRefusal f₁ f₂ σ B len) ≡ false). rw e (progress-sizes f₁ f₂ σ B _ _))
+    (true-or-false (isRefusal (continueRefusal f₁ f₂ σ B len)))
 
 pub sessionsAsWords : SessionsAsWords
 unfolding sessionFrom
 sessionsAsWords =
     record {
       restored = λ w e. split w (session-told w e);
-      fits = λ z b. session-fits (sessionWords z) (fit z b);
+      fits = λ σ b. session-fits (sessionWords σ) (fit σ b);
       decoded = again;
       given = λ w e. given-bytes w (session-told w e .bytes);
       opened = opened-bytes;
-      continued = λ f₁ f₂ z B len b. rw (continued-sizes f₁ f₂ z B len) b;
+      continued = λ f₁ f₂ σ B len b. rw (continued-sizes f₁ f₂ σ B len) b;
     }

@@ -7,7 +7,7 @@ use lib.ListN.{length, drop, length-take, length-drop}
 use lib.Seq.{take-all, getD-take, getD-drop}
 use Rattle.sizes.specs.Sizes.{maxInputs}
 use Rattle.sizes.specs.declared.Sizes.{Sizes}
-use Rattle.layouts.specs.Lengths.{word, sizesLength}
+use Rattle.layouts.specs.Lengths.{wordAt, sizesLength}
 use Rattle.layouts.specs.SizeWords.{sizeWords, sizesFrom, SizeBytes, ByteSizes}
 use Rattle.layouts.specs.Statement.{SizesAsWords}
 use Rattle.layouts.proofs.Told.{SizesTold, sizes-told, sizes-fit}
@@ -30,17 +30,17 @@ given-bytes w b =
     }
 
 module _ (z : Sizes) (b : ByteSizes z) where
-  pub words-small : (i : ℕ) → i < sizesLength → word (sizeWords z) i < 256
+  pub size-words-most : (i : ℕ) → i < sizesLength → wordAt (sizeWords z) i < 256
   unfolding sizeWords
-  words-small zero l = b .output
-  words-small (suc zero) l = b .inputs
-  words-small (suc (suc i)) l = b .width i (omega arith)
+  size-words-most zero l = b .output
+  size-words-most (suc zero) l = b .inputs
+  size-words-most (suc (suc i)) l = b .width i (omega arith)
 
   fit : SizesTold (sizeWords z)
   unfolding sizeWords
   fit =
       let c = b .count in
-      record { long = omega arith; bytes = record { long = omega arith; small = words-small } }
+      record { long = omega arith; bytes = record { long = omega arith; small = size-words-most } }
 
   again : sizesFrom (sizeWords z) ≡ z
   unfolding sizeWords sizesFrom

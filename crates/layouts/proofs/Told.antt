@@ -10,7 +10,7 @@ use lib.ListN.{length}
 use borrow.Author.Tests.{ltb-true, lt-ltb, leb-true, le-leb, eqb-true, eq-eqb}
 use Rattle.ranges.proofs.Search.{every-at, every-of}
 use Rattle.layouts.specs.AnswerWords.{answerFits}
-use Rattle.layouts.specs.Lengths.{word, sizesLength, atMark, sessionLength, atKind, answerLength}
+use Rattle.layouts.specs.Lengths.{wordAt, sizesLength, atMark, sessionLength, atKind, answerLength}
 use Rattle.layouts.specs.SessionWords.{sessionFits}
 use Rattle.layouts.specs.SizeWords.{fitsByte, sizeBytes, sizesFit, SizeBytes}
 
@@ -42,12 +42,12 @@ module _ (w : List ℕ) where
   pub record SessionTold : Type 0 where
     pub long : length w ≡ sessionLength
     pub bytes : SizeBytes w
-    pub mark : word w atMark ≤ 2
+    pub mark : wordAt w atMark ≤ 2
 
   pub session-told : sessionFits w ≡ true → SessionTold
   unfolding sessionFits
   session-told e =
-      let p = and-eq-true-iff (eqb (length w) sessionLength && sizeBytes w) (leb (word w atMark) 2) .0 e in
+      let p = and-eq-true-iff (eqb (length w) sessionLength && sizeBytes w) (leb (wordAt w atMark) 2) .0 e in
       let q = and-eq-true-iff (eqb (length w) sessionLength) (sizeBytes w) .0 (p .0) in
       let l = eqb-true (length w) sessionLength (q .0) in
       record { long = l; bytes = bytes-told (omega arith) (q .1); mark = leb-true _ _ (p .1) }
@@ -58,12 +58,12 @@ module _ (w : List ℕ) where
 
   pub record AnswerTold : Type 0 where
     pub long : length w ≡ answerLength
-    pub kind : word w atKind ≤ 3
+    pub kind : wordAt w atKind ≤ 3
 
   pub answer-told : answerFits w ≡ true → AnswerTold
   unfolding answerFits
   answer-told e =
-      let p = and-eq-true-iff (eqb (length w) answerLength) (leb (word w atKind) 3) .0 e in
+      let p = and-eq-true-iff (eqb (length w) answerLength) (leb (wordAt w atKind) 3) .0 e in
       record { long = eqb-true (length w) answerLength (p .0); kind = leb-true _ _ (p .1) }
 
   pub answer-fits : AnswerTold → answerFits w ≡ true

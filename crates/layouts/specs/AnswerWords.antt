@@ -15,13 +15,13 @@ use Rattle.sessions.specs.declared.Kind.{Kind}
 use Rattle.sessions.specs.declared.Kind.the-variants.{Refused, Spent, Equivalent, Differs}
 use Rattle.sizes.specs.Sizes.{maxInputs}
 use Rattle.sizes.specs.declared.Refusal.{Refusal}
-use Rattle.layouts.specs.Lengths.{word, atNumber, atFile, atStep, atKind, atRun, atVector, atOutput₁, atOutput₂, answerLength}
+use Rattle.layouts.specs.Lengths.{wordAt, atNumber, atFile, atStep, atKind, atRun, atVector, atOutput₁, atOutput₂, answerLength}
 
 abbrev pub refusalWords : Refusal → List ℕ
 refusalWords r = r .number ∷ r .file ∷ r .step ∷ []
 
 abbrev pub refusalFrom : List ℕ → Refusal
-refusalFrom w = record { number = word w atNumber; file = word w atFile; step = word w atStep }
+refusalFrom w = record { number = wordAt w atNumber; file = wordAt w atFile; step = wordAt w atStep }
 
 unfoldable pub kindWord : Kind → ℕ
 kindWord Refused = 0
@@ -38,15 +38,15 @@ answerWords a =
     (kindWord (a .kind) ∷ a .run ∷ (a .vector ++ (a .output1 ∷ a .output2 ∷ [])))
 
 unfoldable pub answerFits : List ℕ → Bool
-answerFits w = eqb (length w) answerLength && leb (word w atKind) 3
+answerFits w = eqb (length w) answerLength && leb (wordAt w atKind) 3
 
 unfoldable pub answerFrom : List ℕ → Answer
 answerFrom w =
     record {
       refusal = refusalFrom w;
-      kind = kindFrom (word w atKind);
-      run = word w atRun;
+      kind = kindFrom (wordAt w atKind);
+      run = wordAt w atRun;
       vector = take maxInputs (drop atVector w);
-      output1 = word w atOutput₁;
-      output2 = word w atOutput₂;
+      output1 = wordAt w atOutput₁;
+      output2 = wordAt w atOutput₂;
     }

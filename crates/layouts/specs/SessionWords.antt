@@ -1,6 +1,6 @@
 -- Sessions as words: the sizes, position, mark.
 --   markWord, markFrom   a mark: 0 open, 1 equal, 2 differ
---   sessionWords z       the words of the session z
+--   sessionWords σ       the words of the session σ
 --   sessionFits w        the words are a session: there are sessionLength of them, each size fits a byte, and the mark is 0 to 2
 --   sessionFrom w        the session that the words give
 use mathlib.Core.Bool.{Bool, cond, _&&_}
@@ -11,7 +11,7 @@ use lib.ListN.{length}
 use Rattle.sessions.specs.declared.Mark.{Mark}
 use Rattle.sessions.specs.declared.Mark.the-variants.{Open, Equal, Differ}
 use Rattle.sessions.specs.declared.Session.{Session}
-use Rattle.layouts.specs.Lengths.{word, atPosition, atMark, sessionLength}
+use Rattle.layouts.specs.Lengths.{wordAt, atPosition, atMark, sessionLength}
 use Rattle.layouts.specs.SizeWords.{sizeWords, sizeBytes, sizesFrom}
 
 unfoldable pub markWord : Mark → ℕ
@@ -23,11 +23,11 @@ unfoldable pub markFrom : ℕ → Mark
 markFrom k = cond (eqb k 0) Open (cond (eqb k 1) Equal Differ)
 
 unfoldable pub sessionWords : Session → List ℕ
-sessionWords z = sizeWords (z .sizes) ++ (z .position ∷ markWord (z .mark) ∷ [])
+sessionWords σ = sizeWords (σ .sizes) ++ (σ .position ∷ markWord (σ .mark) ∷ [])
 
 unfoldable pub sessionFits : List ℕ → Bool
-sessionFits w = eqb (length w) sessionLength && sizeBytes w && leb (word w atMark) 2
+sessionFits w = eqb (length w) sessionLength && sizeBytes w && leb (wordAt w atMark) 2
 
 unfoldable pub sessionFrom : List ℕ → Session
 sessionFrom w =
-    record { sizes = sizesFrom w; position = word w atPosition; mark = markFrom (word w atMark) }
+    record { sizes = sizesFrom w; position = wordAt w atPosition; mark = markFrom (wordAt w atMark) }

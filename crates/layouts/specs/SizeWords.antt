@@ -14,13 +14,14 @@ use lib.ListN.{length, getD, take, drop}
 use Rattle.ranges.specs.Search.{every}
 use Rattle.sizes.specs.Sizes.{maxInputs}
 use Rattle.sizes.specs.declared.Sizes.{Sizes}
-use Rattle.layouts.specs.Lengths.{word, atM, atD, atWidths, sizesLength}
+use Rattle.layouts.specs.Lengths.{wordAt, atM, atD, atWidths, sizesLength}
 
 unfoldable pub sizeWords : Sizes → List ℕ
 sizeWords z = z .m ∷ z .d ∷ z .widths
 
+-- word i fits a byte
 unfoldable pub fitsByte : List ℕ → ℕ → Bool
-fitsByte w i = ltb (word w i) 256
+fitsByte w i = ltb (wordAt w i) 256
 
 unfoldable pub sizeBytes : List ℕ → Bool
 sizeBytes w = every (fitsByte w) 0 sizesLength
@@ -29,11 +30,11 @@ unfoldable pub sizesFit : List ℕ → Bool
 sizesFit w = eqb (length w) sizesLength && sizeBytes w
 
 unfoldable pub sizesFrom : List ℕ → Sizes
-sizesFrom w = record { m = word w atM; d = word w atD; widths = take maxInputs (drop atWidths w) }
+sizesFrom w = record { m = wordAt w atM; d = wordAt w atD; widths = take maxInputs (drop atWidths w) }
 
 pub record SizeBytes (w : List ℕ) : Type 0 where
   pub long : sizesLength ≤ length w
-  pub small : (i : ℕ) → i < sizesLength → word w i < 256
+  pub small : (i : ℕ) → i < sizesLength → wordAt w i < 256
 
 pub record ByteSizes (z : Sizes) : Type 0 where
   pub output : z .m < 256

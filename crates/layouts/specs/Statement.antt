@@ -33,7 +33,7 @@ use Rattle.sizes.specs.Sizes.{maxInputs}
 use Rattle.sizes.specs.declared.Refusal.{Refusal}
 use Rattle.sizes.specs.declared.Sizes.{Sizes}
 use Rattle.layouts.specs.AnswerWords.{refusalWords, kindWord, answerWords, answerFits, answerFrom}
-use Rattle.layouts.specs.Lengths.{word, atM, atD, atWidths, sizesLength, atPosition, atMark, sessionLength}
+use Rattle.layouts.specs.Lengths.{wordAt, atM, atD, atWidths, sizesLength, atPosition, atMark, sessionLength}
 use Rattle.layouts.specs.Lengths.{atNumber, atFile, atStep, refusalLength, atKind, atRun, atVector, atOutput₁, atOutput₂, answerLength}
 use Rattle.layouts.specs.SessionWords.{markWord, sessionWords, sessionFits, sessionFrom}
 use Rattle.layouts.specs.SizeWords.{sizeWords, sizesFit, sizesFrom, ByteSizes}
@@ -44,17 +44,17 @@ pub record SizesAsWords : Type 0 where
   pub decoded : (z : Sizes) → ByteSizes z → sizesFrom (sizeWords z) ≡ z
 
 -- the session has sizes that the struct can hold
-abbrev pub Held : Session → Type 0
-Held z = ByteSizes (z .sizes)
+abbrev pub ByteSession : Session → Type 0
+ByteSession σ = ByteSizes (σ .sizes)
 
 pub record SessionsAsWords : Type 0 where
   pub restored : (w : List ℕ) → sessionFits w ≡ true → sessionWords (sessionFrom w) ≡ w
-  pub fits : (z : Session) → Held z → sessionFits (sessionWords z) ≡ true
-  pub decoded : (z : Session) → Held z → sessionFrom (sessionWords z) ≡ z
-  pub given : (w : List ℕ) → sessionFits w ≡ true → Held (sessionFrom w)
-  pub opened : (f₁ f₂ : List ℕ) → Held (opened f₁ f₂ .session)
+  pub fits : (σ : Session) → ByteSession σ → sessionFits (sessionWords σ) ≡ true
+  pub decoded : (σ : Session) → ByteSession σ → sessionFrom (sessionWords σ) ≡ σ
+  pub given : (w : List ℕ) → sessionFits w ≡ true → ByteSession (sessionFrom w)
+  pub opened : (f₁ f₂ : List ℕ) → ByteSession (opened f₁ f₂ .session)
   pub continued :
-      (f₁ f₂ : List ℕ) (z : Session) (B len : ℕ) → Held z → Held (continued f₁ f₂ z B len .session)
+      (f₁ f₂ : List ℕ) (σ : Session) (B len : ℕ) → ByteSession σ → ByteSession (continued f₁ f₂ σ B len .session)
 
 -- the answer's vector has an entry for each input that a file may have
 abbrev pub WholeVector : Answer → Type 0
@@ -64,13 +64,13 @@ pub record AnswersAsWords : Type 0 where
   pub restored : (w : List ℕ) → answerFits w ≡ true → answerWords (answerFrom w) ≡ w
   pub fits : (a : Answer) → WholeVector a → answerFits (answerWords a) ≡ true
   pub decoded : (a : Answer) → WholeVector a → answerFrom (answerWords a) ≡ a
-  pub continued : (f₁ f₂ : List ℕ) (z : Session) (B len : ℕ) → WholeVector (continued f₁ f₂ z B len .answer)
+  pub continued : (f₁ f₂ : List ℕ) (σ : Session) (B len : ℕ) → WholeVector (continued f₁ f₂ σ B len .answer)
 
 pub record RefusalPlaces (r : Refusal) : Type 0 where
   pub count : length (refusalWords r) ≡ 3
-  pub number : word (refusalWords r) 0 ≡ r .number
-  pub file : word (refusalWords r) 1 ≡ r .file
-  pub step : word (refusalWords r) 2 ≡ r .step
+  pub number : wordAt (refusalWords r) 0 ≡ r .number
+  pub file : wordAt (refusalWords r) 1 ≡ r .file
+  pub step : wordAt (refusalWords r) 2 ≡ r .step
 
 -- the sizes have a word length for each input that a file may have
 abbrev pub WholeWidths : Sizes → Type 0
@@ -78,28 +78,28 @@ WholeWidths z = length (z .widths) ≡ maxInputs
 
 pub record SizesPlaces (z : Sizes) : Type 0 where
   pub count : length (sizeWords z) ≡ 10
-  pub m : word (sizeWords z) 0 ≡ z .m
-  pub d : word (sizeWords z) 1 ≡ z .d
+  pub m : wordAt (sizeWords z) 0 ≡ z .m
+  pub d : wordAt (sizeWords z) 1 ≡ z .d
   pub widths : take maxInputs (drop 2 (sizeWords z)) ≡ z .widths
 
-pub record SessionPlaces (z : Session) : Type 0 where
-  pub count : length (sessionWords z) ≡ 12
-  pub m : word (sessionWords z) 0 ≡ z .sizes .m
-  pub d : word (sessionWords z) 1 ≡ z .sizes .d
-  pub widths : take maxInputs (drop 2 (sessionWords z)) ≡ z .sizes .widths
-  pub position : word (sessionWords z) 10 ≡ z .position
-  pub mark : word (sessionWords z) 11 ≡ markWord (z .mark)
+pub record SessionPlaces (σ : Session) : Type 0 where
+  pub count : length (sessionWords σ) ≡ 12
+  pub m : wordAt (sessionWords σ) 0 ≡ σ .sizes .m
+  pub d : wordAt (sessionWords σ) 1 ≡ σ .sizes .d
+  pub widths : take maxInputs (drop 2 (sessionWords σ)) ≡ σ .sizes .widths
+  pub position : wordAt (sessionWords σ) 10 ≡ σ .position
+  pub mark : wordAt (sessionWords σ) 11 ≡ markWord (σ .mark)
 
 pub record AnswerPlaces (a : Answer) : Type 0 where
   pub count : length (answerWords a) ≡ 15
-  pub number : word (answerWords a) 0 ≡ a .refusal .number
-  pub file : word (answerWords a) 1 ≡ a .refusal .file
-  pub step : word (answerWords a) 2 ≡ a .refusal .step
-  pub kind : word (answerWords a) 3 ≡ kindWord (a .kind)
-  pub run : word (answerWords a) 4 ≡ a .run
+  pub number : wordAt (answerWords a) 0 ≡ a .refusal .number
+  pub file : wordAt (answerWords a) 1 ≡ a .refusal .file
+  pub step : wordAt (answerWords a) 2 ≡ a .refusal .step
+  pub kind : wordAt (answerWords a) 3 ≡ kindWord (a .kind)
+  pub run : wordAt (answerWords a) 4 ≡ a .run
   pub vector : take maxInputs (drop 5 (answerWords a)) ≡ a .vector
-  pub output₁ : word (answerWords a) 13 ≡ a .output1
-  pub output₂ : word (answerWords a) 14 ≡ a .output2
+  pub output₁ : wordAt (answerWords a) 13 ≡ a .output1
+  pub output₂ : wordAt (answerWords a) 14 ≡ a .output2
 
 pub record Offsets : Type 0 where
   pub m : atM ≡ 0
@@ -121,7 +121,7 @@ pub record Offsets : Type 0 where
   pub answerCount : answerLength ≡ 15
   pub refusal : (r : Refusal) → RefusalPlaces r
   pub sizes : (z : Sizes) → WholeWidths z → SizesPlaces z
-  pub session : (z : Session) → WholeWidths (z .sizes) → SessionPlaces z
+  pub session : (σ : Session) → WholeWidths (σ .sizes) → SessionPlaces σ
   pub answer : (a : Answer) → WholeVector a → AnswerPlaces a
 
 pub record WordsOfMarksAndKinds : Type 0 where

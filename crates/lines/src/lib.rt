@@ -12,11 +12,11 @@ ghost use Rattle.file.specs.Accepted.{Accepted};
 ghost use Rattle.sizes.specs.Sizes.{maxInputs};
 ghost use Rattle.printed.specs.Report.{gridText, shownText};
 ghost use Rattle.printed.specs.Lines.{refusalLine, runLine};
-ghost use Rattle.text.specs.Writing.{Room, Put};
+ghost use Rattle.text.specs.Writing.{RoomFor, Put};
 
 // The line of a refusal: its number, file and step.
 pub fn put_refusal(text: &mut [u8], at: usize, refusal: Refusal) -> usize
-    requires { ⌜ Room (refusalLine refusal) (now text) at ⌝ }
+    requires { ⌜ RoomFor (refusalLine refusal) (now text) at ⌝ }
     ensures { λ r. ⌜ Put (refusalLine refusal) (now (text .entry)) (now (text .exit)) at r ⌝ }
 {
     let ns = [refusal.number, refusal.file, refusal.step];
@@ -26,7 +26,7 @@ pub fn put_refusal(text: &mut [u8], at: usize, refusal: Refusal) -> usize
 // The line of the grid of a file, which is accepted: each axis, and the size.
 pub fn put_grid(text: &mut [u8], at: usize, file: &[u8]) -> usize
     requires { ⌜ Accepted (now file) ⌝ }
-    requires { ⌜ Room (gridText (now file)) (now text) at ⌝ }
+    requires { ⌜ RoomFor (gridText (now file)) (now text) at ⌝ }
     ensures { λ r. ⌜ Put (gridText (now (file .entry))) (now (text .entry)) (now (text .exit)) at r ⌝ }
 {
     let z = read_sizes(file);
@@ -40,7 +40,7 @@ pub fn put_grid(text: &mut [u8], at: usize, file: &[u8]) -> usize
 // The line of a difference: the first d entries of the vector, and both outputs.
 fn put_difference(text: &mut [u8], at: usize, d: usize, answer: Answer) -> usize
     requires { ⌜ d ≤ maxInputs ⌝ }
-    requires { ⌜ Room (shownText Kind.Differs d answer) (now text) at ⌝ }
+    requires { ⌜ RoomFor (shownText Kind.Differs d answer) (now text) at ⌝ }
     ensures { λ r. ⌜ Put (shownText Kind.Differs d answer) (now (text .entry)) (now (text .exit)) at r ⌝ }
 {
     let vector = answer.vector;
@@ -51,7 +51,7 @@ fn put_difference(text: &mut [u8], at: usize, d: usize, answer: Answer) -> usize
 // The line of the verdict that an answer gives on d inputs; nothing where it gives none.
 pub fn put_verdict(text: &mut [u8], at: usize, d: usize, answer: Answer) -> usize
     requires { ⌜ d ≤ maxInputs ⌝ }
-    requires { ⌜ Room (shownText (answer .kind) d answer) (now text) at ⌝ }
+    requires { ⌜ RoomFor (shownText (answer .kind) d answer) (now text) at ⌝ }
     ensures { λ r. ⌜ Put (shownText (answer .kind) d answer) (now (text .entry)) (now (text .exit)) at r ⌝ }
 {
     let kind = answer.kind;
@@ -65,7 +65,7 @@ pub fn put_verdict(text: &mut [u8], at: usize, d: usize, answer: Answer) -> usiz
 
 // The line of the vectors run.
 pub fn put_run(text: &mut [u8], at: usize, run: u64) -> usize
-    requires { ⌜ Room (runLine run) (now text) at ⌝ }
+    requires { ⌜ RoomFor (runLine run) (now text) at ⌝ }
     ensures { λ r. ⌜ Put (runLine run) (now (text .entry)) (now (text .exit)) at r ⌝ }
 {
     let ns = [run];

@@ -6,7 +6,7 @@ use Prim.Native.Nat.{ℕ, zero, suc}
 use native.Mathlib.Omega.{arith}
 use lib.IntN.{ℤ, pos, negsuc, _+ℤ_, _-ℤ_, _*ℤ_}
 use lib.IntN.{+ℤ-idl, +ℤ-idr, +ℤ-comm, +ℤ-negℤ-cancel, -ℤ-+ℤ-cancel, *ℤ-zero, zero-*ℤ, sucℤ-*ℤ}
-use Rattle.integers.proofs.Ring.{sub-push, sub-eq, ring₂, ring₃, ring₄, +ℤ-swap, *ℤ-distribl, *ℤ-idl}
+use Rattle.integers.proofs.Ring.{sub-push, sub-eq, ring₂, ring₃, ring₄, +ℤ-swap, +ℤ-opposite, *ℤ-distribl, *ℤ-idl}
 use Rattle.newton.specs.Polynomial.{value, coefficient}
 use Rattle.newton.specs.Arithmetic.{add, scale, sub, shift, mul, delta}
 
@@ -33,10 +33,7 @@ unfolding sub
 value-sub p q x =
     value-add p (scale (negsuc 0) q) x
     ∙ ap (λ y. value p x +ℤ y) (value-scale (negsuc 0) q x)
-    ∙ opposite (value p x) (value q x)
-  where
-    opposite : (y z : ℤ) → y +ℤ negsuc 0 *ℤ z ≡ y -ℤ z
-    opposite = ring₂ _ λ a b c d. simp sub-push (sub-eq _ _ _ _ (omega arith))
+    ∙ +ℤ-opposite (value p x) (value q x)
 
 -- the list of one coefficient is a constant, and lo, 1 is lo + x
 pub value-constant : (c x : ℤ) → value (c ∷ []) x ≡ c

@@ -1,7 +1,7 @@
 -- What is claimed of polynomials in one variable. Each statement is proved in proofs/, under the same name in lower case.
---   Newton's coefficients   the k-fold difference at 0 is k!·c_k
---   One-variable theorem    a polynomial that M divides at 0 .. L − 1, where M divides L!, is divisible by M at every natural number
---   By degree               so is one of degree at most g that M divides at 0 .. g
+--   NewtonCoefficients   the k-fold difference at 0 is k!·c_k
+--   OneVariable          a polynomial that M divides at 0 .. L − 1, where M divides L!, is divisible by M at every natural number
+--   ByDegree             so is one of degree at most g that M divides at 0 .. g
 use mathlib.Core.Path.{_≡_}
 use mathlib.Core.List.{List}
 use Prim.Native.Nat.{ℕ, suc, _<_, _≤_}

@@ -68,8 +68,8 @@ fn no_session() -> Session
     }
 }
 
-// Opens a session on two files: their sizes, position 0, open. Refused under document 01's conditions 1 to 10, file 1 before file 2, with a
-// session of zeros, marked open.
+// Opens a session on two files: their sizes, position 0, open. Refused under document 01's conditions 1 to 10, file 1
+// before file 2, with a session of zeros, marked open.
 pub fn open_session(file1: &[u8], file2: &[u8]) -> Opened
     ensures { λ r. ⌜ r ≡ opened (now (file1 .entry)) (now (file2 .entry)) ⌝ }
 {

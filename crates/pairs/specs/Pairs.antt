@@ -13,7 +13,7 @@ use Rattle.sessions.specs.Session.{plainAnswer}
 use Rattle.sessions.specs.declared.Answer.{Answer}
 use Rattle.sessions.specs.declared.Kind.the-variants.{Spent, Equivalent, Differs}
 use Rattle.sizes.specs.Sizes.{accepted}
-use Rattle.vectors.specs.Vectors.{held}
+use Rattle.vectors.specs.Vectors.{padded}
 use Rattle.pairs.specs.Written.{Expression, x, number, _⊕_, _⊖_, _⊗_, _↑_, written}
 
 abbrev pub spent : ℕ → Answer
@@ -24,7 +24,7 @@ equivalent n = plainAnswer Equivalent n
 
 abbrev pub differs : List ℕ → ℕ → ℕ → ℕ → Answer
 differs v o₁ o₂ n =
-    record { refusal = accepted; kind = Differs; run = n; vector = held v; output1 = o₁; output2 = o₂ }
+    record { refusal = accepted; kind = Differs; run = n; vector = padded v; output1 = o₁; output2 = o₂ }
 
 pub record Pair : Type 0 where
   pub file₁ : List ℕ

@@ -69,6 +69,7 @@ argumentOf (Add l r) = l + 2 ^ 16 * r
 argumentOf (Subtract l r) = l + 2 ^ 16 * r
 argumentOf (Multiply l r) = l + 2 ^ 16 * r
 
+-- the arguments of the steps, 8 bytes each
 unfoldable pub argumentBytes : List Step → List ℕ
 argumentBytes [] = []
 argumentBytes (t ∷ ts) = bytes 8 (argumentOf t) ++ argumentBytes ts

@@ -8,13 +8,13 @@ use native.Mathlib.Nat.{div-add-mod', div-lt-iff-lt-mul, mod-lt}
 use native.Mathlib.Omega.{arith}
 use lib.ListN.{length}
 use Rattle.places.specs.Places.{Below, size, vectorAt, placeOf}
-use Rattle.places.proofs.Places.{oneToOne, rest-pos, size-snoc}
+use Rattle.places.proofs.Places.{oneToOne, rest-least, size-snoc}
 
-pub below-length : (us x : List ℕ) → Below us x → length x ≡ length us
-below-length [] [] b = refl
-below-length [] (y ∷ ys) b = absurd b
-below-length (u ∷ us) [] b = absurd b
-below-length (u ∷ us) (y ∷ ys) b = ap suc (below-length us ys (b .1))
+pub length-below : (us x : List ℕ) → Below us x → length x ≡ length us
+length-below [] [] b = refl
+length-below [] (y ∷ ys) b = absurd b
+length-below (u ∷ us) [] b = absurd b
+length-below (u ∷ us) (y ∷ ys) b = ap suc (length-below us ys (b .1))
 
 -- one entry more
 below-snoc : (us x : List ℕ) (u t : ℕ) → Below us x → t < u → Below (us ++ (u ∷ [])) (x ++ (t ∷ []))
@@ -32,7 +32,7 @@ place-snoc (w ∷ us) (y ∷ ys) u t b = rw (size-snoc us u, place-snoc us ys u 
 
 pub vector-snoc : (us : List ℕ) (u p : ℕ) → p < size us * u → vectorAt (us ++ (u ∷ [])) p ≡ vectorAt us (p / u) ++ (p % u ∷ [])
 vector-snoc us u p h =
-    let some = rest-pos (size us) u p h in
+    let some = rest-least (size us) u p h in
     let row = div-lt-iff-lt-mul some .1 h in
     let b = oneToOne us .below (p / u) row in
     ap (vectorAt (us ++ (u ∷ [])))

@@ -7,31 +7,37 @@ use native.Mathlib.Nat.{mod-lt, div-add-mod', div-lt-iff-lt-mul, eq-or-lt-of-le,
 use native.Mathlib.Decide.{decLt}
 use native.Mathlib.Omega.{arith}
 use lib.Arith.{digits-lt, digits-div, digits-mod}
+use lib.ListN.{length}
 use Rattle.places.specs.Places.{Below, Before, size, vectorAt, placeOf}
 use Rattle.places.specs.Statement.{OneToOne, InOrder}
 
 -- the later axes hold a vector where the whole list does
-pub rest-pos : (u s p : ℕ) → p < u * s → 0 < s
-rest-pos u zero p h = absurd (not-suc-le-zero (subst (λ (n : ℕ). p < n) (mul-zero u) h))
-rest-pos u (suc s) p h = omega arith
+pub rest-least : (u s p : ℕ) → p < u * s → 0 < s
+rest-least u zero p h = absurd (not-suc-le-zero (subst (λ (n : ℕ). p < n) (mul-zero u) h))
+rest-least u (suc s) p h = omega arith
 
 pub size-snoc : (us : List ℕ) (u : ℕ) → size (us ++ (u ∷ [])) ≡ size us * u
 unfolding size
 size-snoc [] u = omega arith
 size-snoc (w ∷ us) u = rw (size-snoc us u) (sym (mul-assoc w (size us) u))
 
+pub length-vector : (us : List ℕ) (p : ℕ) → length (vectorAt us p) ≡ length us
+unfolding vectorAt
+length-vector [] p = refl
+length-vector (u ∷ us) p = ap suc (length-vector us _)
+
 below : (us : List ℕ) (p : ℕ) → p < size us → Below us (vectorAt us p)
 unfolding size vectorAt
 below [] p h = tt
 below (u ∷ us) p h =
-    let s = rest-pos u (size us) p h in
+    let s = rest-least u (size us) p h in
     (div-lt-iff-lt-mul s .1 h, below us (p % size us) (mod-lt p s))
 
 placed : (us : List ℕ) (p : ℕ) → p < size us → placeOf us (vectorAt us p) ≡ p
 unfolding size vectorAt placeOf
 placed [] p h = omega arith
 placed (u ∷ us) p h =
-    ap (λ (r : ℕ). p / size us * size us + r) (placed us (p % size us) (mod-lt p (rest-pos u (size us) p h)))
+    ap (λ (r : ℕ). p / size us * size us + r) (placed us (p % size us) (mod-lt p (rest-least u (size us) p h)))
     ∙ div-add-mod' p (size us)
 
 inside : (us x : List ℕ) → Below us x → placeOf us x < size us
@@ -78,7 +84,7 @@ pub before-place : (us : List ℕ) (p q : ℕ) → p < q → q < size us → Bef
 unfolding size vectorAt
 before-place [] p q h k = omega arith
 before-place (u ∷ us) p q h k =
-    let s = rest-pos u (size us) q k in
+    let s = rest-least u (size us) q k in
     ⊎-elim (λ l. inl l)
     (λ e. inr (e .0, before-place us (p % size us) (q % size us) (e .1) (mod-lt q s)))
     (digits-order (size us) p q s h)

@@ -5,11 +5,12 @@ use mathlib.Core.Path.{_≡_}
 use Prim.Native.Nat.{ℕ, _^_, _≤_, _<_}
 use native.Mathlib.Omega.{arith}
 use borrow.Author.Tests.{leb-false}
-use lib.ListN.{length, length-map, length-take, length-drop}
+use lib.ListN.{length, getD, length-map, length-take, length-drop}
+use Rattle.bound.specs.Bound.{maxBound}
 use Rattle.fields.specs.File.{sizesOf}
 use Rattle.file.specs.Accepted.{Accepted}
-use Rattle.grid.specs.Grid.{axesOf, gridSize, tooLarge}
-use Rattle.grid.proofs.Axes.{never-large}
+use Rattle.grid.specs.Grid.{widthsOf, axesOf, gridSize, tooLarge}
+use Rattle.grid.proofs.Axes.{axes-most, never-large}
 use Rattle.grid.proofs.Grids.{grid-least}
 use Rattle.sizes.specs.Sizes.{maxInputs}
 
@@ -22,8 +23,12 @@ module _ (s : List ℕ) (a : Accepted s) where
   unfolding axesOf
   length-axes = simp (length-map, length-take) (omega (arith, length-widths, a .inputsHigh))
 
-  pub grid-some : 1 ≤ gridSize (sizesOf s)
-  grid-some = grid-least (sizesOf s) ((a .outputLow, a .outputHigh), a .inputsHigh)
+  pub file-axis-most : (i : ℕ) → getD (axesOf (sizesOf s)) i 0 ≤ maxBound
+  unfolding axesOf
+  file-axis-most i = axes-most (sizesOf s .m) (a .outputLow) (a .outputHigh) (widthsOf (sizesOf s)) i
+
+  pub file-grid-least : 1 ≤ gridSize (sizesOf s)
+  file-grid-least = grid-least (sizesOf s) ((a .outputLow, a .outputHigh), a .inputsHigh)
 
   pub grid-fits : gridSize (sizesOf s) < 2 ^ 64
   unfolding tooLarge

@@ -7,7 +7,8 @@ ghost use mathlib.Core.Path.{_≡_};
 ghost use Rattle.plan.specs.Comparison.{Comparable};
 ghost use Rattle.plan.specs.Plan.{planOf};
 
-// N of both files, m, d, the axes of the grid on which the files are compared, with 0 past the last input, and its count of vectors.
+// N of both files, m, d, the axes of the grid on which the files are compared, with 0 past the last input, and its
+// count of vectors.
 pub struct Plan {
     pub n1: usize,
     pub n2: usize,
@@ -15,6 +16,12 @@ pub struct Plan {
     pub d: usize,
     pub axes: [u64; INPUTS],
     pub size: u64,
+}
+
+// Places of a grid, or lines of it: from the first to before the end.
+pub struct Span {
+    pub from: u64,
+    pub end: u64,
 }
 
 // The plan of two comparable files.

@@ -25,7 +25,7 @@ use Rattle.text.specs.Decimal.{decimal}
 use Rattle.printed.specs.Report.{gridText, shownText, concluded, reportOf, textRoom}
 use Rattle.text.specs.Text.{spaced}
 use Rattle.printed.specs.Lines.{refusalLine, gridLine, differLine, equivalentLine, runLine}
-use Rattle.text.proofs.Decimal.{decimal-last, length-more}
+use Rattle.text.proofs.Decimal.{decimal-last, length-decimal}
 use Rattle.printed.proofs.Texts.{concluded-refused, concluded-lines, first-accepted, report-refused, report-spent, report-equivalent, report-differs}
 
 -- a number below 10^(k + 1) has at most k + 1 digits
@@ -36,15 +36,15 @@ digits-most (suc k) n h =
       | yes l ↦ omega (arith, ap length (decimal-last n l))
       | no l ↦
           let q = div-lt-iff-lt-mul (lit< tt) .1 (rw (pow-succ' 10 (suc k), mul-comm 10 (10 ^ suc k)) at h) in
-          omega (arith, length-more n (omega arith), digits-most k (n / 10) q)
+          omega (arith, length-decimal n (omega arith), digits-most k (n / 10) q)
     ]
 
 -- a space and a number
 abbrev perNumber : ℕ
 perNumber = 21
 
-word-most : (n : ℕ) → n < 2 ^ 64 → length (decimal n) ≤ 20
-word-most n h = digits-most 19 n (le-trans h (lit≤ tt))
+decimal-most : (n : ℕ) → n < 2 ^ 64 → length (decimal n) ≤ 20
+decimal-most n h = digits-most 19 n (le-trans h (lit≤ tt))
 
 -- each of the numbers is a word
 abbrev AllWords : List ℕ → Type 0
@@ -55,7 +55,7 @@ spaced-most : (ns : List ℕ) → AllWords ns → length (spaced ns) ≤ perNumb
 unfolding spaced
 spaced-most [] h = omega arith
 spaced-most (n ∷ ns) h =
-    omega (arith, length-append (decimal n) (spaced ns), word-most n (h .0), spaced-most ns (h .1))
+    omega (arith, length-append (decimal n) (spaced ns), decimal-most n (h .0), spaced-most ns (h .1))
 
 entry-words : (ns : List ℕ) → ((i : ℕ) → getD ns i 0 < 2 ^ 64) → AllWords ns
 entry-words [] h = tt
@@ -80,9 +80,9 @@ module _ (a : Answer) (w : Words a) where
       simp length-append
       (omega (
         arith,
-        word-most (a .refusal .number) (w .number),
-        word-most (a .refusal .file) (w .file),
-        word-most (a .refusal .step) (w .step),
+        decimal-most (a .refusal .number) (w .number),
+        decimal-most (a .refusal .file) (w .file),
+        decimal-most (a .refusal .step) (w .step),
       ))
 
   differ-most : (d : ℕ) → d ≤ maxInputs → length (differLine (take d (a .vector)) (a .output1) (a .output2)) ≤ 219
@@ -93,8 +93,8 @@ module _ (a : Answer) (w : Words a) where
         arith,
         spaced-most (take d (a .vector)) (take-words d (a .vector) (entry-words (a .vector) (w .entries))),
         length-take d (a .vector),
-        word-most (a .output1) (w .output₁),
-        word-most (a .output2) (w .output₂),
+        decimal-most (a .output1) (w .output₁),
+        decimal-most (a .output2) (w .output₂),
       ))
 
   equivalent-most : length equivalentLine ≤ 219
@@ -110,7 +110,7 @@ module _ (a : Answer) (w : Words a) where
 
 run-most : (n : ℕ) → n < 2 ^ 64 → length (runLine n) ≤ 25
 unfolding runLine spaced
-run-most n h = simp length-append (omega (arith, word-most n h))
+run-most n h = simp length-append (omega (arith, decimal-most n h))
 
 grid-most : (s : List ℕ) → Accepted s → length (gridText s) ≤ 196
 unfolding gridText gridLine axesOf spaced
@@ -121,7 +121,7 @@ grid-most s a =
       spaced-most (axesOf (sizesOf s)) (axes-words (sizesOf s .m) (a .outputLow) (a .outputHigh) (widthsOf (sizesOf s))),
       length-axes s a,
       a .inputsHigh,
-      word-most (gridSize (sizesOf s)) (grid-fits s a),
+      decimal-most (gridSize (sizesOf s)) (grid-fits s a),
     ))
 
 pub fits : Fits

@@ -14,11 +14,11 @@ use borrow.Author.Tests.{ne-eqb}
 use Rattle.plan.proofs.Axes.{length-axes}
 use Rattle.fields.specs.File.{sizesOf}
 use Rattle.grid.specs.Grid.{axesOf, gridSize}
-use Rattle.places.proofs.LastAxis.{below-length}
+use Rattle.places.proofs.LastAxis.{length-below}
 use Rattle.places.proofs.Places.{oneToOne}
 use Rattle.sessions.specs.Calls.{IsVerdict}
 use Rattle.sessions.specs.Demand3.{firstPlace, stop, stopVector, Settled}
-use Rattle.sessions.specs.Session.{pairRefusal, isRefusal, opened, continueRefusal, refusedAnswer, continued}
+use Rattle.sessions.specs.Session.{pairRefusal, opened, continueRefusal, refusedAnswer, continued}
 use Rattle.sessions.specs.declared.Answer.{Answer}
 use Rattle.sessions.specs.declared.Continued.{Continued}
 use Rattle.sessions.specs.declared.Kind.the-variants.{Equivalent, Differs}
@@ -26,7 +26,8 @@ use Rattle.sessions.specs.declared.Session.{Session}
 use Rattle.sessions.proofs.Cases.{continued-refused}
 use Rattle.sessions.proofs.Demand3.{at-verdict}
 use Rattle.sessions.proofs.Step.{stop-differs}
-use Rattle.vectors.specs.Vectors.{held}
+use Rattle.sizes.specs.Sizes.{isRefusal}
+use Rattle.vectors.specs.Vectors.{padded}
 use Rattle.printed.specs.Claims.{ReportedInFull, RefusedReported}
 use Rattle.printed.specs.Report.{gridText, verdictText, printed, shownText, concluded, reportOf}
 use Rattle.printed.specs.Lines.{runLine}
@@ -42,13 +43,13 @@ module _ (f₁ f₂ : List ℕ) (o : opened f₁ f₂ .refusal .number ≡ 0) wh
   G = gridSize (sizesOf f₁)
 
   -- the first d entries of the vector that is held are the vector
-  front : place < G → take (sizesOf f₁ .d) (held (stopVector f₁ f₂)) ≡ stopVector f₁ f₂
+  front : place < G → take (sizesOf f₁ .d) (padded (stopVector f₁ f₂)) ≡ stopVector f₁ f₂
   unfolding gridSize
   front l =
       let us = axesOf (sizesOf f₁) in
       let inside : stop f₁ f₂ - 1 < G = omega (arith, stop-differs f₁ f₂ l) in
       take-at (stopVector f₁ f₂) _ (sizesOf f₁ .d)
-      (below-length us (stopVector f₁ f₂) (oneToOne us .below (stop f₁ f₂ - 1) inside) ∙ length-axes f₁ (first-accepted f₁ f₂ o))
+      (length-below us (stopVector f₁ f₂) (oneToOne us .below (stop f₁ f₂ - 1) inside) ∙ length-axes f₁ (first-accepted f₁ f₂ o))
 
   module _ (a : Answer) (right : Settled f₁ f₂ a) where
     shown-equivalent : a .kind ≡ Equivalent → shownText (a .kind) (sizesOf f₁ .d) a ≡ verdictText f₁ f₂
@@ -87,20 +88,20 @@ reportedInFull f₁ f₂ o cs allowed before c after split v =
     ap (reportOf f₁ f₂ _) (found .1) ∙ verdict-printed f₁ f₂ o _ (found .0) v
 
 -- a continue call with a budget is refused as opening is
-module _ (f₁ f₂ : List ℕ) (h : ¬ (opened f₁ f₂ .refusal .number ≡ 0)) (z : Session) (B len : ℕ) (b : 0 < B) where
-  as-opening : continueRefusal f₁ f₂ z B len ≡ opened f₁ f₂ .refusal
+module _ (f₁ f₂ : List ℕ) (h : ¬ (opened f₁ f₂ .refusal .number ≡ 0)) (σ : Session) (B len : ℕ) (b : 0 < B) where
+  as-opening : continueRefusal f₁ f₂ σ B len ≡ opened f₁ f₂ .refusal
   unfolding continueRefusal opened
   as-opening = rw (ne-eqb B 0 (λ e. omega arith), ne-eqb (pairRefusal f₁ f₂ .number) 0 h)
 
-  refused-answer : refusedAnswer (opened f₁ f₂ .refusal) ≡ continued f₁ f₂ z B len .answer
+  refused-answer : refusedAnswer (opened f₁ f₂ .refusal) ≡ continued f₁ f₂ σ B len .answer
   refused-answer =
-      let refuses : isRefusal (continueRefusal f₁ f₂ z B len) ≡ true = rw (as-opening, ne-eqb (opened f₁ f₂ .refusal .number) 0 h) refl in
-      ap refusedAnswer (sym as-opening) ∙ ap (λ (r : Continued). r .answer) (continued-refused f₁ f₂ z B len refuses)
+      let refuses : isRefusal (continueRefusal f₁ f₂ σ B len) ≡ true = rw (as-opening, ne-eqb (opened f₁ f₂ .refusal .number) 0 h) refl in
+      ap refusedAnswer (sym as-opening) ∙ ap (λ (r : Continued). r .answer) (continued-refused f₁ f₂ σ B len refuses)
 
 pub refusedReported : RefusedReported
 unfolding printed refusedAnswer
 refusedReported f₁ f₂ h B len n b =
-    let z = opened f₁ f₂ .session in
-    ap (λ (a : Answer). reportOf f₁ f₂ a n) (sym (refused-answer f₁ f₂ h z B len b))
+    let σ = opened f₁ f₂ .session in
+    ap (λ (a : Answer). reportOf f₁ f₂ a n) (sym (refused-answer f₁ f₂ h σ B len b))
     ∙ report-refused f₁ f₂ (refusedAnswer (opened f₁ f₂ .refusal)) n refl
     ∙ rw (ne-eqb (opened f₁ f₂ .refusal .number) 0 h)

@@ -17,13 +17,13 @@ use Rattle.datapath.specs.Steps.{stepValue, values, exact, output}
 use Rattle.grid_theorem.specs.Comparison.{differsAt, firstDifference}
 use Rattle.words.specs.Bytes.{little}
 use Rattle.text.specs.Decimal.{digitsOf, decimal}
-use Rattle.printed.specs.Listings.{a·dp, b·dp, listed, Listings}
+use Rattle.printed.specs.Listings.{a·dp, b·dp, listingTable, Listings}
 use Rattle.printed.specs.Report.{gridText, verdictText, printed}
 use Rattle.text.specs.Text.{spaced}
 use Rattle.printed.specs.Lines.{refusalLine, gridLine, differLine, equivalentLine, runLine}
 
 pub listings : Listings
-unfolding listed a·dp b·dp printed gridText verdictText gridLine differLine equivalentLine runLine refusalLine spaced decimal digitsOf
+unfolding listingTable a·dp b·dp printed gridText verdictText gridLine differLine equivalentLine runLine refusalLine spaced decimal digitsOf
     opened noSession pairRefusal sameSizes outputOf stop firstPlace
     refusalOf shownStep fileNumber headFault tooShort badOutput badInputs badCount badWidths widthRule badLength
     faultyStep faultyAt stepFault badOperation badArgument argumentRule operandsRule

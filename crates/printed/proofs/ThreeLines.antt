@@ -11,7 +11,7 @@ use Rattle.text.specs.Decimal.{decimal}
 use Rattle.printed.specs.Report.{gridText}
 use Rattle.text.specs.Text.{ascii, lineFeed, space, line, spaced, words, cut, linesOf, wordsOf}
 use Rattle.printed.specs.Lines.{gridLine, runLine}
-use Rattle.text.proofs.Cut.{free, free-append, free-spaced, cut-at, cut-line, cut-words, cut-more}
+use Rattle.text.proofs.Cut.{free, free-append, free-spaced, cut-at, cut-line, cut-words, cut-words-rest}
 
 -- words with two signs have no line feed
 two-free : (x ns y ms : List ℕ) → free lineFeed x ≡ true → free lineFeed y ≡ true → free lineFeed (x ++ spaced ns ++ (y ++ spaced ms)) ≡ true
@@ -23,7 +23,7 @@ two-free x ns y ms h k =
 two-words :
     (w ns v ms : List ℕ) → free space w ≡ true → free space v ≡ true →
     cut space (w ++ spaced ns ++ (space ∷ v ++ spaced ms)) ≡ (w ∷ map decimal ns) ++ (v ∷ map decimal ms)
-two-words w ns v ms h k = cut-more w ns (v ++ spaced ms) h ∙ ap (λ (ps : List (List ℕ)). (w ∷ map decimal ns) ++ ps) (cut-words v ms k)
+two-words w ns v ms h k = cut-words-rest w ns (v ++ spaced ms) h ∙ ap (λ (ps : List (List ℕ)). (w ∷ map decimal ns) ++ ps) (cut-words v ms k)
 
 -- a line alone, and three lines
 pub cut-one : (r : List ℕ) → free lineFeed r ≡ true → linesOf (line r) ≡ r ∷ [] ∷ []

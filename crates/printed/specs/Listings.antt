@@ -1,7 +1,7 @@
 -- Texts that are to be printed, byte by byte.
---   Listing    two files, and the text that is to be printed of them
---   listed     the table: document 01's files a.dp and b.dp ('Pairs'), b.dp with itself, and two empty files
---   Listings   each text is what is printed. It is proved in proofs/Listings, by one test over the whole table
+--   Listing       two files, and the text that is to be printed of them
+--   listingTable  the table: document 01's files a.dp and b.dp ('Pairs'), b.dp with itself, and two empty files
+--   Listings      each text is what is printed. It is proved in proofs/Listings, by one test over the whole table
 use mathlib.Core.Path.{_≡_}
 use mathlib.Core.List.{List, [], _∷_, _++_, map}
 use Prim.Native.Nat.{ℕ}
@@ -26,8 +26,8 @@ a·dp =
 unfoldable pub b·dp : List ℕ
 b·dp = (0x02 ∷ 0x02 ∷ 0x01 ∷ 0x00 ∷ 0x01 ∷ 0x02 ∷ replicate 6 0x00) ++ (0x02 ∷ []) ++ replicate 8 0x00
 
-unfoldable pub listed : List Listing
-listed =
+unfoldable pub listingTable : List Listing
+listingTable =
     -- grid 2 4 = 8, differ 1 1 : 1 0, run 6
     record {
       file₁ = a·dp;
@@ -55,4 +55,4 @@ listed =
     ∷ []
 
 abbrev pub Listings : Type 0
-Listings = map (λ (l : Listing). printed (l .file₁) (l .file₂)) listed ≡ map (λ (l : Listing). l .text) listed
+Listings = map (λ (l : Listing). printed (l .file₁) (l .file₂)) listingTable ≡ map (λ (l : Listing). l .text) listingTable

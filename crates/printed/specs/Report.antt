@@ -14,10 +14,11 @@ use Rattle.evaluate.specs.Evaluate.{outputOf}
 use Rattle.fields.specs.File.{sizesOf}
 use Rattle.grid.specs.Grid.{axesOf, gridSize}
 use Rattle.sessions.specs.Demand3.{firstPlace, stop, stopVector}
-use Rattle.sessions.specs.Session.{isRefusal, opened}
+use Rattle.sessions.specs.Session.{opened}
 use Rattle.sessions.specs.declared.Answer.{Answer}
 use Rattle.sessions.specs.declared.Kind.{Kind}
 use Rattle.sessions.specs.declared.Kind.the-variants.{Refused, Spent, Equivalent, Differs}
+use Rattle.sizes.specs.Sizes.{isRefusal}
 use Rattle.printed.specs.Lines.{refusalLine, gridLine, differLine, equivalentLine, runLine}
 
 -- both files have the sizes of the first

@@ -17,9 +17,9 @@ true-or-false true = inl refl
 true-or-false false = inr refl
 
 module _ (f : ℕ → Bool) where
-  pub first-none : (j : ℕ) → first f j 0 ≡ j
+  pub first-empty : (j : ℕ) → first f j 0 ≡ j
   unfolding first
-  first-none j = refl
+  first-empty j = refl
 
   pub first-here : (j k : ℕ) → f j ≡ true → first f j k ≡ j
   unfolding first
@@ -30,26 +30,26 @@ module _ (f : ℕ → Bool) where
   unfolding first
   first-later j k e = rw e
 
-  pub first-low : (j k : ℕ) → j ≤ first f j k
-  first-low j zero = rw first-none (omega arith)
-  first-low j (suc k) =
-      let later = first-low (j + 1) k in
+  pub first-least : (j k : ℕ) → j ≤ first f j k
+  first-least j zero = rw first-empty (omega arith)
+  first-least j (suc k) =
+      let later = first-least (j + 1) k in
       ⊎-elim
       (λ (e : f j ≡ true). rw (first-here j (suc k) e) (omega arith))
       (λ (e : f j ≡ false). rw (first-later j k e) (omega arith))
       (true-or-false (f j))
 
-  pub first-high : (j k : ℕ) → first f j k ≤ j + k
-  first-high j zero = rw first-none (omega arith)
-  first-high j (suc k) =
-      let later = first-high (j + 1) k in
+  pub first-most : (j k : ℕ) → first f j k ≤ j + k
+  first-most j zero = rw first-empty (omega arith)
+  first-most j (suc k) =
+      let later = first-most (j + 1) k in
       ⊎-elim
       (λ (e : f j ≡ true). rw (first-here j (suc k) e) (omega arith))
       (λ (e : f j ≡ false). rw (first-later j k e) (omega arith))
       (true-or-false (f j))
 
   pub first-found : (j k : ℕ) → first f j k < j + k → f (first f j k) ≡ true
-  first-found j zero l = absurd (let e = first-none j in omega arith)
+  first-found j zero l = absurd (let e = first-empty j in omega arith)
   first-found j (suc k) l =
       ⊎-elim
       (λ (e : f j ≡ true). rw (first-here j (suc k) e) e)
@@ -57,7 +57,7 @@ module _ (f : ℕ → Bool) where
       (true-or-false (f j))
 
   pub first-before : (j k i : ℕ) → j ≤ i → i < first f j k → f i ≡ false
-  first-before j zero i low high = absurd (let e = first-none j in omega arith)
+  first-before j zero i low high = absurd (let e = first-empty j in omega arith)
   first-before j (suc k) i low high =
       ⊎-elim
       (λ (e : f j ≡ true). absurd (omega (arith, first-here j (suc k) e)))
@@ -83,7 +83,7 @@ module _ (f : ℕ → Bool) where
       (eq-or-lt-of-le low)
 
   pub first-absent : (j k : ℕ) → NoneBelow j (j + k) → first f j k ≡ j + k
-  first-absent j zero none = first-none j ∙ omega arith
+  first-absent j zero none = first-empty j ∙ omega arith
   first-absent j (suc k) none =
       first-later j k (none j (omega arith) (omega arith))
       ∙ first-absent (j + 1) k (λ h low high. none h (omega arith) (omega arith))
@@ -100,7 +100,7 @@ module _ (f : ℕ → Bool) where
   pub first-end : (j n : ℕ) → n ≤ j → first f j (n - j) ≡ j
   first-end j n l =
       let q : n - j ≡ 0 = omega arith in
-      ap (first f j) q ∙ first-none j
+      ap (first f j) q ∙ first-empty j
 
   -- a stretch of k with none is passed
   passed : (k p n : ℕ) → p + k ≤ n → NoneBelow p (p + k) → first f p (n - p) ≡ first f (p + k) (n - (p + k))
@@ -121,11 +121,11 @@ module _ (f : ℕ → Bool) where
   -- a search that finds in the first k of n finds the same in all
   pub first-part : (p k n : ℕ) → first f p k < p + k → p + k ≤ n → first f p (n - p) ≡ first f p k
   first-part p k n h r =
-      first-unique p (n - p) (first f p k) (first-low p k) (omega (arith, first-low p k)) (first-found p k h) (first-before p k)
+      first-unique p (n - p) (first f p k) (first-least p k) (omega (arith, first-least p k)) (first-found p k h) (first-before p k)
 
-  pub every-none : (j : ℕ) → every f j 0 ≡ true
+  pub every-empty : (j : ℕ) → every f j 0 ≡ true
   unfolding every
-  every-none j = refl
+  every-empty j = refl
 
   pub every-later : (j k : ℕ) → f j ≡ true → every f j (suc k) ≡ every f (j + 1) k
   unfolding every
@@ -148,7 +148,7 @@ module _ (f : ℕ → Bool) where
       (true-or-false (f j))
 
   pub every-of : (j k : ℕ) → ((i : ℕ) → j ≤ i → i < j + k → f i ≡ true) → every f j k ≡ true
-  every-of j zero at = every-none j
+  every-of j zero at = every-empty j
   every-of j (suc k) at =
       every-later j k (at j (omega arith) (omega arith))
       ∙ every-of (j + 1) k (λ i low high. at i (omega arith) (omega arith))
@@ -169,12 +169,12 @@ module _ (f : ℕ → Bool) where
   pub every-end : (j n : ℕ) → n ≤ j → every f j (n - j) ≡ true
   every-end j n l =
       let q : n - j ≡ 0 = omega arith in
-      ap (every f j) q ∙ every-none j
+      ap (every f j) q ∙ every-empty j
 
 -- the same tests p further on
 pub first-shift :
     (f g : ℕ → Bool) (p j k : ℕ) → ((i : ℕ) → j ≤ i → i < j + k → f (p + i) ≡ g i) → first f (p + j) k ≡ p + first g j k
-first-shift f g p j zero e = first-none f (p + j) ∙ ap (λ i. p + i) (sym (first-none g j))
+first-shift f g p j zero e = first-empty f (p + j) ∙ ap (λ i. p + i) (sym (first-empty g j))
 first-shift f g p j (suc k) e =
     ⊎-elim
     (λ (t : g j ≡ true).

@@ -1,5 +1,5 @@
-// Judging what reading answers: what one read comes to, and whether the program was given names of files that it may read. No contract can say what
-// a read brings: these say what becomes of what it answers.
+// Judging what reading answers: what one read comes to, and whether the program was given names of files that it may
+// read. No contract can say what a read brings: these say what becomes of what it answers.
 ghost use mathlib.Core.Path.{_≡_};
 ghost use Prim.Native.Nat.{_+_, _^_, _<_};
 ghost use lib.ListN.{length};
@@ -41,8 +41,9 @@ pub fn unread() -> Reading
     }
 }
 
-// What a read into `rest` comes to that answered `got`, where `done` bytes came before it: one that failed ends reading with no bytes, whatever came
-// before; one that brought nothing ends it at the end of the file, with the bytes that came before; after any other reading goes on.
+// What a read into `rest` comes to that answered `got`, where `done` bytes came before it: one that failed ends
+// reading with no bytes, whatever came before; one that brought nothing ends it at the end of the file, with the
+// bytes that came before; after any other reading goes on.
 pub fn after_read(done: usize, got: isize, rest: &[u8]) -> AfterRead
     requires { ⌜ done + length (now rest) < 2 ^ 64 ⌝ }
     ensures { λ r. ⌜ r ≡ afterRead done got (length (now (rest .entry))) ⌝ }

@@ -19,6 +19,7 @@ use Rattle.layouts.specs.Layout.{has, returned, leaves}
 use Rattle.layouts.specs.Lengths.{answerLength}
 use Rattle.report.specs.Report.{reportOf, textRoom}
 
+-- the words of an answer: the length of the text
 abbrev pub reportLength : ℕ
 reportLength = 1
 

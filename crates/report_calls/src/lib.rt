@@ -10,8 +10,8 @@ ghost use Rattle.report_calls.specs.ReportCalls.{ReportCall};
 // The words of the answer: the length of the text.
 const REPORT_LENGTH: usize = 1;
 
-// Writes the text of a continue call's answer, given as words, at the start of the text slice, and its count of bytes into out; `run` is the vectors
-// run over all calls. An answer of no kind has no text. Nothing else is touched.
+// Writes the text of a continue call's answer, given as words, at the start of the text slice, and its count of bytes
+// into out; `run` is the vectors run over all calls. An answer of no kind has no text. Nothing else is touched.
 pub fn report_call(
     file1: &[u8],
     file2: &[u8],

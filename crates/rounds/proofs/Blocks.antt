@@ -10,7 +10,7 @@ use lib.IntN.{ℤ, pos}
 use lib.ListN.{length, getD, take, drop, length-append, drop-of-length-le, List·getD-append}
 use lib.Pow.{pow-pos}
 use lib.Seq.{length-take-le, take-all, take-at, drop-at, take-add, drop-drop, getD-append-add}
-use Rattle.differences.specs.Table.{values}
+use Rattle.differences.specs.Table.{tabulate}
 use Rattle.differences.proofs.Neighbours.{combined-remainder}
 use Rattle.words.specs.Words.{word}
 use Rattle.rounds.specs.Passes.{lines, column, whole, passed}
@@ -82,7 +82,7 @@ module _ (s : ℤ) (u w : ℕ) (zu : 0 < u) (zw : 0 < w) where
 
   -- a loop over the blocks of a list: those before `at` are done
   pub pass-start : (l : List ℕ) → l ≡ passed s u w (take 0 l) ++ drop 0 l
-  unfolding passed lines values
+  unfolding passed lines tabulate
   pass-start l = refl
 
   pub pass-step :

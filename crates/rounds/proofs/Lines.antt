@@ -9,7 +9,7 @@ use lib.Arith.{digits-div, digits-mod}
 use lib.IntN.{ℤ}
 use lib.ListN.{length, getD}
 use lib.Seq.{ext-getD}
-use Rattle.differences.proofs.Listed.{length-values, getD-values}
+use Rattle.differences.proofs.Listed.{length-tabulate, getD-tabulate}
 use Rattle.words.specs.Words.{word}
 use Rattle.rounds.specs.Passes.{cell, lines, column}
 
@@ -24,14 +24,14 @@ module _ (u w : ℕ) where
   module _ (E : (ℕ → ℤ) → ℕ → ℤ) (l : List ℕ) where
     pub length-lines : length (lines u w E l) ≡ length l
     unfolding lines
-    length-lines = length-values (λ (q : ℕ). word (E (λ (t : ℕ). cell l (q - q / w % u * w + t * w)) (q / w % u))) 0 (length l)
+    length-lines = length-tabulate (λ (q : ℕ). word (E (λ (t : ℕ). cell l (q - q / w % u * w + t * w)) (q / w % u))) 0 (length l)
 
     pub getD-lines :
         (b k p : ℕ) → k < u → p < w → (b * u + k) * w + p < length l
         → getD (lines u w E l) ((b * u + k) * w + p) 0 ≡ word (E (column u w l b p) k)
     unfolding lines column
     getD-lines b k p hk hp h =
-        getD-values (λ (q : ℕ). word (E (λ (t : ℕ). cell l (q - q / w % u * w + t * w)) (q / w % u))) 0 (length l) 0
+        getD-tabulate (λ (q : ℕ). word (E (λ (t : ℕ). cell l (q - q / w % u * w + t * w)) (q / w % u))) 0 (length l) 0
         ((b * u + k) * w + p) h
         ∙ rw (zero-add ((b * u + k) * w + p), digits-div (b * u + k) hp, digits-mod b hk)
         (ap (λ (f : ℕ → ℤ). word (E f k)) (fun-ext λ t. ap (cell l) (omega arith)))

@@ -19,28 +19,28 @@ length-splice (suc q) [] (y ∷ b) e = absurd (omega arith)
 length-splice (suc q) (x ∷ a) [] e = absurd (omega arith)
 length-splice (suc q) (x ∷ a) (y ∷ b) e = ap suc (length-splice q a b (omega arith))
 
-pub splice-none : (a b : List ℕ) → splice 0 a b ≡ b
+pub splice-start : (a b : List ℕ) → splice 0 a b ≡ b
 unfolding splice
-splice-none a b = refl
+splice-start a b = refl
 
-pub splice-all : (q : ℕ) (a b : List ℕ) → length a ≤ q → length b ≤ q → splice q a b ≡ a
+pub splice-end : (q : ℕ) (a b : List ℕ) → length a ≤ q → length b ≤ q → splice q a b ≡ a
 unfolding splice
-splice-all q a b g h = ap₂ _++_ (take-all q a g) (drop-of-length-le b h) ∙ append-nil a
+splice-end q a b g h = ap₂ _++_ (take-all q a g) (drop-of-length-le b h) ∙ append-nil a
 
-pub getD-splice-low : (q : ℕ) (a b : List ℕ) (i : ℕ) → q ≤ length a → i < q → getD (splice q a b) i 0 ≡ getD a i 0
+pub getD-splice-front : (q : ℕ) (a b : List ℕ) (i : ℕ) → q ≤ length a → i < q → getD (splice q a b) i 0 ≡ getD a i 0
 unfolding splice
-getD-splice-low q a b i h l =
+getD-splice-front q a b i h l =
     List·getD-append (take q a) (drop q b) 0 i (omega (arith, length-take-le q a h)) ∙ getD-take q a i 0 l
 
-pub getD-splice-high :
+pub getD-splice-rest :
     (q : ℕ) (a b : List ℕ) (i : ℕ) → length a ≡ length b → q ≤ i → getD (splice q a b) i 0 ≡ getD b i 0
 unfolding splice
-getD-splice-high zero a b i e h = refl
-getD-splice-high (suc q) a b zero e h = absurd (omega arith)
-getD-splice-high (suc q) [] [] (suc i) e h = refl
-getD-splice-high (suc q) [] (y ∷ b) (suc i) e h = absurd (omega arith)
-getD-splice-high (suc q) (x ∷ a) [] (suc i) e h = absurd (omega arith)
-getD-splice-high (suc q) (x ∷ a) (y ∷ b) (suc i) e h = getD-splice-high q a b i (omega arith) (omega arith)
+getD-splice-rest zero a b i e h = refl
+getD-splice-rest (suc q) a b zero e h = absurd (omega arith)
+getD-splice-rest (suc q) [] [] (suc i) e h = refl
+getD-splice-rest (suc q) [] (y ∷ b) (suc i) e h = absurd (omega arith)
+getD-splice-rest (suc q) (x ∷ a) [] (suc i) e h = absurd (omega arith)
+getD-splice-rest (suc q) (x ∷ a) (y ∷ b) (suc i) e h = getD-splice-rest q a b i (omega arith) (omega arith)
 
 -- where a and b agree up to q
 pub splice-same :
@@ -50,8 +50,8 @@ splice-same q a b e h same =
     ext-getD 0 (splice q a b) b (length-splice q a b e) (λ i l. by i (decLt i q))
   where
     by : (i : ℕ) → Dec (i < q) → getD (splice q a b) i 0 ≡ getD b i 0
-    by i (yes l) = getD-splice-low q a b i h l ∙ same i l
-    by i (no l) = getD-splice-high q a b i e (omega arith)
+    by i (yes l) = getD-splice-front q a b i h l ∙ same i l
+    by i (no l) = getD-splice-rest q a b i e (omega arith)
 
 -- one more entry of a, and one more of b
 pub splice-up :

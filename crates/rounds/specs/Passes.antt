@@ -14,7 +14,7 @@ use lib.Dec.{ltb}
 use lib.IntN.{ℤ, pos, negsuc, _+ℤ_, _*ℤ_}
 use lib.ListN.{length, getD}
 use Rattle.differences.specs.Neighbours.{combined}
-use Rattle.differences.specs.Table.{values}
+use Rattle.differences.specs.Table.{tabulate}
 use Rattle.words.specs.Words.{word}
 
 abbrev pub factor : Bool → ℤ
@@ -26,12 +26,12 @@ cell l q = pos (getD l q 0)
 
 unfoldable pub rounded : ℤ → ℕ → ℕ → List ℕ → List ℕ
 rounded s w from l =
-    values (λ (q : ℕ). cond (ltb q from) (getD l q 0) (word (cell l q +ℤ s *ℤ cell l (q - w)))) 0 (length l)
+    tabulate (λ (q : ℕ). cond (ltb q from) (getD l q 0) (word (cell l q +ℤ s *ℤ cell l (q - w)))) 0 (length l)
 
 -- place q is entry q / w % u of its line
 unfoldable pub lines : ℕ → ℕ → ((ℕ → ℤ) → ℕ → ℤ) → List ℕ → List ℕ
 lines u w E l =
-    values (λ (q : ℕ). word (E (λ (t : ℕ). cell l (q - q / w % u * w + t * w)) (q / w % u))) 0 (length l)
+    tabulate (λ (q : ℕ). word (E (λ (t : ℕ). cell l (q - q / w % u * w + t * w)) (q / w % u))) 0 (length l)
 
 unfoldable pub column : ℕ → ℕ → List ℕ → ℕ → ℕ → ℕ → ℤ
 column u w l b p t = cell l ((b * u + t) * w + p)

@@ -1,5 +1,6 @@
-// Differencing and summing along one axis, in place: the cells of every line are joined with their neighbours, in u − 1 rounds for an axis u.
-// With the later axes' size w as stride, the lines of one block of u · w cells are worked side by side.
+// Differencing and summing along one axis, in place: the cells of every line are joined with their neighbours, in u −
+// 1 rounds for an axis u. With the later axes' size w as stride, the lines of one block of u · w cells are worked
+// side by side.
 ghost use mathlib.Core.Path.{_≡_};
 ghost use Prim.Native.Nat.{_*_, _%_, _≤_, _<_};
 ghost use lib.IntN.{pos, _+ℤ_, _*ℤ_};
@@ -18,7 +19,8 @@ fn join(here: u64, below: u64, sum: bool) -> u64
     }
 }
 
-// One round: each cell from `from` on is joined with the cell w before it. The last cell is first, so that each meets its neighbour's old value.
+// One round: each cell from `from` on is joined with the cell w before it. The last cell is first, so that each meets
+// its neighbour's old value.
 fn round(cells: &mut [u64], from: usize, w: usize, sum: bool)
     requires { ⌜ w ≤ from ⌝ }
     ensures { λ r. ⌜ now (cells .exit) ≡ rounded (factor sum) w from (now (cells .entry)) ⌝ }
@@ -32,7 +34,7 @@ fn round(cells: &mut [u64], from: usize, w: usize, sum: bool)
     }
 }
 
-// The lines of one block: u rows of w cells.
+// The lines of one block: u layers of w cells.
 fn block(cells: &mut [u64], u: usize, w: usize, sum: bool)
     requires { ⌜ (0 < length (now cells)) × (length (now cells) ≡ u * w) ⌝ }
     ensures { λ r. ⌜ now (cells .exit) ≡ passed (factor sum) u w (now (cells .entry)) ⌝ }

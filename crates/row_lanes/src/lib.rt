@@ -21,7 +21,8 @@ pub fn set_column(rows: &mut [u64], l: usize, v: [u64; INPUTS], w: usize)
     }
 }
 
-// The first of `live` lanes in which row a of one slice and row b of another differ modulo 2^m, or `live` where there is none.
+// The first of `live` lanes in which row a of one slice and row b of another differ modulo 2^m, or `live` where there
+// is none.
 pub fn first_unequal(
     rows1: &[u64],
     a: usize,

@@ -2,12 +2,13 @@
 use rows::row;
 use words::wrapping_mul;
 ghost use Rattle.rows.specs.Rows.{Written, Operands};
-ghost use Rattle.row_products.specs.Products.{products, lowProducts};
+ghost use Rattle.row_products.specs.Products.{rowProducts, rowLowProducts};
 
-// Row k becomes the product of the earlier rows a and b modulo 2^64. At this width the machine multiplies one lane at a time.
+// Row k becomes the product of the earlier rows a and b modulo 2^64. At this width the machine multiplies one lane at
+// a time.
 pub fn multiply_rows(rows: &mut [u64], k: usize, a: usize, b: usize, w: usize)
     requires { ⌜ Operands w (now rows) k a b ⌝ }
-    ensures { λ _. ⌜ Written w (now (rows .entry)) (now (rows .exit)) k (products w (now (rows .entry)) a b) ⌝ }
+    ensures { λ _. ⌜ Written w (now (rows .entry)) (now (rows .exit)) k (rowProducts w (now (rows .entry)) a b) ⌝ }
 {
     let mut l = 0;
     while l < w {
@@ -18,11 +19,11 @@ pub fn multiply_rows(rows: &mut [u64], k: usize, a: usize, b: usize, w: usize)
     }
 }
 
-// Row k becomes the product of the low 32 bits of the earlier rows a and b, which the machine does for several lanes at a time. Modulo 2^32 it
-// is the product of the rows.
+// Row k becomes the product of the low 32 bits of the earlier rows a and b, which the machine does for several lanes
+// at a time. Modulo 2^32 it is the product of the rows.
 pub fn multiply_low_rows(rows: &mut [u64], k: usize, a: usize, b: usize, w: usize)
     requires { ⌜ Operands w (now rows) k a b ⌝ }
-    ensures { λ _. ⌜ Written w (now (rows .entry)) (now (rows .exit)) k (lowProducts w (now (rows .entry)) a b) ⌝ }
+    ensures { λ _. ⌜ Written w (now (rows .entry)) (now (rows .exit)) k (rowLowProducts w (now (rows .entry)) a b) ⌝ }
 {
     let x = row(rows, a, w);
     let y = row(rows, b, w);

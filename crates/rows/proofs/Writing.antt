@@ -19,13 +19,13 @@ pub record Put (before after : List ℕ) (at f : ℕ → ℕ) (n : ℕ) : Type 0
   pub new : (i : ℕ) → i < n → getD after (at i) 0 ≡ f i
   pub old : (j : ℕ) → ((i : ℕ) → i < n → ¬ (at i ≡ j)) → getD after j 0 ≡ getD before j 0
 
-pub put-none : (before : List ℕ) (at f : ℕ → ℕ) → Put before before at f 0
-put-none before at f = record { long = refl; new = λ i h. absurd (omega arith); old = λ j h. refl }
+pub put-start : (before : List ℕ) (at f : ℕ → ℕ) → Put before before at f 0
+put-start before at f = record { long = refl; new = λ i h. absurd (omega arith); old = λ j h. refl }
 
-pub put-more :
+pub put-step :
     {before after : List ℕ} {at f : ℕ → ℕ} {n : ℕ} → Put before after at f n →
     (v : ℕ) → at n < length before → ((i : ℕ) → i < n → ¬ (at i ≡ at n)) → v ≡ f n → Put before (set after (at n) v) at f (n + 1)
-put-more {before} {after} {at} {f} {n} p v inside apart e =
+put-step {before} {after} {at} {f} {n} p v inside apart e =
     record {
       long = length-set after (at n) v ∙ p .long;
       new =
@@ -60,15 +60,15 @@ pub record Row (w : ℕ) (before after : List ℕ) (k : ℕ) (f : ℕ → ℕ) (
   pub within : l ≤ w
   pub put : Put before after (λ i. w * k + i) f l
 
-pub row-none : (w : ℕ) (before : List ℕ) (k : ℕ) (f : ℕ → ℕ) → Row w before before k f 0
-row-none w before k f = record { within = omega arith; put = put-none before _ f }
+pub row-start : (w : ℕ) (before : List ℕ) (k : ℕ) (f : ℕ → ℕ) → Row w before before k f 0
+row-start w before k f = record { within = omega arith; put = put-start before _ f }
 
 module _ {w : ℕ} {before after : List ℕ} {k : ℕ} {f : ℕ → ℕ} {l : ℕ} (r : Row w before after k f l) where
-  pub row-more : HasRow w before k → l < w → (v : ℕ) → v ≡ f l → Row w before (set after (w * k + l) v) k f (l + 1)
-  row-more room h v e = record { within = omega arith; put = put-more (r .put) v (omega arith) (λ i t q. omega arith) e }
+  pub row-step : HasRow w before k → l < w → (v : ℕ) → v ≡ f l → Row w before (set after (w * k + l) v) k f (l + 1)
+  row-step room h v e = record { within = omega arith; put = put-step (r .put) v (omega arith) (λ i t q. omega arith) e }
 
-  pub row-all : w ≤ l → Written w before after k f
-  row-all h =
+  pub row-end : w ≤ l → Written w before after k f
+  row-end h =
       record {
         row = λ i t. r .put .new i (omega arith);
         others = λ i j t d. r .put .old (w * i + j) (λ u g q. rows-apart w i j k u t (omega (arith, r .within)) d q);

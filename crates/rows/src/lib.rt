@@ -1,5 +1,5 @@
-// Rows of w lanes in a slice: one operation at a time is done on all lanes of a row. The loops are short enough to be inlined where w is a constant, and
-// compile to straight-line code there.
+// Rows of w lanes in a slice: one operation at a time is done on all lanes of a row. The loops are short enough to be
+// inlined where w is a constant, and compile to straight-line code there.
 ghost use mathlib.Core.Path.{_≡_};
 ghost use Prim.Native.Nat.{ℕ, _≤_, _<_};
 ghost use lib.ListN.{getD};

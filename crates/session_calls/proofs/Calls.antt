@@ -9,7 +9,7 @@ use borrow.Author.Tests.{eq-eqb, ne-eqb}
 use Rattle.layouts.specs.AnswerWords.{refusalWords, answerWords}
 use Rattle.layouts.specs.Lengths.{sessionLength, refusalLength, answerLength}
 use Rattle.layouts.specs.SessionWords.{sessionWords, sessionFits, sessionFrom}
-use Rattle.sessions.specs.Session.{opened, scratchAfter}
+use Rattle.sessions.specs.Session.{opened, continuedScratch}
 use Rattle.session_calls.specs.SessionCalls.{openFits, OpenCall, continueFits, continuing, ContinueCall}
 
 module _ (w o : List ℕ) where
@@ -49,6 +49,6 @@ module _ (f₁ f₂ : List ℕ) (B : ℕ) (w s a : List ℕ) where
 
   pub continue-right :
       (w′ s′ a′ : List ℕ) → continueFits w a ≡ true → w′ ≡ sessionWords (continuing f₁ f₂ w B s .session) →
-      s′ ≡ scratchAfter f₁ f₂ (sessionFrom w) B s → a′ ≡ answerWords (continuing f₁ f₂ w B s .answer) →
+      s′ ≡ continuedScratch f₁ f₂ (sessionFrom w) B s → a′ ≡ answerWords (continuing f₁ f₂ w B s .answer) →
       ContinueCall f₁ f₂ B w s a 1 w′ s′ a′
   continue-right w′ s′ a′ e p q r = record { result = rw e; session = rw e p; answer = rw e r; scratch = rw e q }

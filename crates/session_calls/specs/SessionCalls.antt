@@ -22,7 +22,7 @@ use Rattle.layouts.specs.AnswerWords.{refusalWords, answerWords}
 use Rattle.layouts.specs.Layout.{has, returned, leaves}
 use Rattle.layouts.specs.Lengths.{sessionLength, refusalLength, answerLength}
 use Rattle.layouts.specs.SessionWords.{sessionWords, sessionFits, sessionFrom}
-use Rattle.sessions.specs.Session.{opened, continued, scratchAfter}
+use Rattle.sessions.specs.Session.{opened, continued, continuedScratch}
 use Rattle.sessions.specs.declared.Continued.{Continued}
 
 unfoldable pub openFits : List ℕ → List ℕ → Bool
@@ -43,4 +43,4 @@ pub record ContinueCall (f₁ f₂ : List ℕ) (B : ℕ) (w s a : List ℕ) (r :
   pub result : r ≡ returned (continueFits w a)
   pub session : w′ ≡ leaves (continueFits w a) (sessionWords (continuing f₁ f₂ w B s .session)) w
   pub answer : a′ ≡ leaves (continueFits w a) (answerWords (continuing f₁ f₂ w B s .answer)) a
-  pub scratch : s′ ≡ leaves (continueFits w a) (scratchAfter f₁ f₂ (sessionFrom w) B s) s
+  pub scratch : s′ ≡ leaves (continueFits w a) (continuedScratch f₁ f₂ (sessionFrom w) B s) s

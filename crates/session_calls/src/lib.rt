@@ -1,5 +1,6 @@
-// The calls on sessions, in words. A session is words: m, d, the word lengths, position and mark. Where it has another length, a size does not
-// fit a byte or the mark is not 0 to 2, continuing returns 0, with nothing touched. Opening takes any words of that length and overwrites them.
+// The calls on sessions, in words. A session is words: m, d, the word lengths, position and mark. Where it has
+// another length, a size does not fit a byte or the mark is not 0 to 2, continuing returns 0, with nothing touched.
+// Opening takes any words of that length and overwrites them.
 use answer_words::ANSWER_LENGTH;
 use answer_words::put_answer;
 use continuing::continue_session;
@@ -33,8 +34,9 @@ pub fn open_call(file1: &[u8], file2: &[u8], session: &mut [u64], out: &mut [u64
     1
 }
 
-// Continues a session on two files under a budget: session goes in and out, and answer gets the answer. Of the scratch slice the first
-// entries, as many as the larger N, are zero afterwards where the call is accepted; nothing else is touched.
+// Continues a session on two files under a budget: session goes in and out, and answer gets the answer. Of the
+// scratch slice the first entries, as many as the larger N, are zero afterwards where the call is accepted; nothing
+// else is touched.
 pub fn continue_call(
     file1: &[u8],
     file2: &[u8],

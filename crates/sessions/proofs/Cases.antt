@@ -13,8 +13,8 @@ use Rattle.fields.specs.File.{sizesOf}
 use Rattle.grid.specs.Grid.{axesOf, gridSize}
 use Rattle.places.specs.Places.{vectorAt}
 use Rattle.ranges.specs.Search.{first}
-use Rattle.sizes.specs.Sizes.{refusedBy}
-use Rattle.sessions.specs.Session.{sameSizes, pairRefusal, isRefusal, misplaced, isClosed, stateRefusal, filesRefusal, roomRefusal, continueRefusal, refusedAnswer, plainAnswer, differsAnswer, movedTo, progress, advanced, continued, scratchAfter}
+use Rattle.sizes.specs.Sizes.{refusedBy, isRefusal}
+use Rattle.sessions.specs.Session.{sameSizes, pairRefusal, misplaced, isClosed, stateRefusal, filesRefusal, roomRefusal, continueRefusal, refusedAnswer, plainAnswer, differsAnswer, movedTo, progress, advanced, continued, continuedScratch}
 use Rattle.sessions.specs.declared.Answer.{Answer}
 use Rattle.sessions.specs.declared.Continued.{Continued}
 use Rattle.sessions.specs.declared.Mark.{Mark}
@@ -24,35 +24,35 @@ use Rattle.sessions.specs.declared.Session.{Session}
 use Rattle.sessions.proofs.Pair.{cond-passed}
 
 abbrev pub handed : Session → Answer → Continued
-handed z a = record { session = z; answer = a }
+handed σ a = record { session = σ; answer = a }
 
-module _ (s₁ s₂ : List ℕ) (z : Session) (B G count q : ℕ) (g : G ≡ gridSize (sizesOf s₁)) (n : count ≡ min B (G - z .position))
-    (e : q ≡ first (outputsDiffer s₁ s₂) (z .position) count) where
+module _ (s₁ s₂ : List ℕ) (σ : Session) (B G count q : ℕ) (g : G ≡ gridSize (sizesOf s₁)) (n : count ≡ min B (G - σ .position))
+    (e : q ≡ first (outputsDiffer s₁ s₂) (σ .position) count) where
   -- the call, by the place that was reached
-  by-place : progress s₁ s₂ z B G q ≡ advanced s₁ s₂ z B
+  by-place : progress s₁ s₂ σ B G q ≡ advanced s₁ s₂ σ B
   unfolding advanced
   by-place = rw (e, n, g)
 
   pub advanced-differs :
-      q < z .position + count →
-      handed (movedTo z (q + 1) Differ) (differsAnswer s₁ s₂ (vectorAt (axesOf (sizesOf s₁)) q) (q + 1 - z .position)) ≡ advanced s₁ s₂ z B
+      q < σ .position + count →
+      handed (movedTo σ (q + 1) Differ) (differsAnswer s₁ s₂ (vectorAt (axesOf (sizesOf s₁)) q) (q + 1 - σ .position)) ≡ advanced s₁ s₂ σ B
   unfolding progress
-  advanced-differs l = rw (lt-ltb q (z .position + min B (G - z .position)) (omega (arith, n))) at by-place
+  advanced-differs l = rw (lt-ltb q (σ .position + min B (G - σ .position)) (omega (arith, n))) at by-place
 
-  module _ (l : z .position + count ≤ q) (p : z .position < G) where
+  module _ (l : σ .position + count ≤ q) (p : σ .position < G) where
     pub advanced-equivalent :
-        G - z .position ≤ B → handed (movedTo z G Equal) (plainAnswer Equivalent (G - z .position)) ≡ advanced s₁ s₂ z B
+        G - σ .position ≤ B → handed (movedTo σ G Equal) (plainAnswer Equivalent (G - σ .position)) ≡ advanced s₁ s₂ σ B
     unfolding progress
     advanced-equivalent h =
         rw
-        (le-ltb q (z .position + min B (G - z .position)) (omega (arith, n)), le-leb G (z .position + B) (omega arith))
+        (le-ltb q (σ .position + min B (G - σ .position)) (omega (arith, n)), le-leb G (σ .position + B) (omega arith))
         at by-place
 
-    pub advanced-spent : B < G - z .position → handed (movedTo z (z .position + B) Open) (plainAnswer Spent B) ≡ advanced s₁ s₂ z B
+    pub advanced-spent : B < G - σ .position → handed (movedTo σ (σ .position + B) Open) (plainAnswer Spent B) ≡ advanced s₁ s₂ σ B
     unfolding progress
     advanced-spent h =
         rw
-        (le-ltb q (z .position + min B (G - z .position)) (omega (arith, n)), lt-leb G (z .position + B) (omega arith))
+        (le-ltb q (σ .position + min B (G - σ .position)) (omega (arith, n)), lt-leb G (σ .position + B) (omega arith))
         at by-place
 
 -- an open session whose position fits is inside the grid
@@ -62,64 +62,64 @@ open-inside G p Open m c = ltb-true p G (not-false _ m)
 open-inside G p Equal m c = absurd (let q : _≡_ {A = ℕ} 0 1 = cc in omega arith)
 open-inside G p Differ m c = absurd (let q : _≡_ {A = ℕ} 0 1 = cc in omega arith)
 
-module _ (s₁ s₂ : List ℕ) (z : Session) (B len : ℕ) where
+module _ (s₁ s₂ : List ℕ) (σ : Session) (B len : ℕ) where
   -- what holds of an accepted call
   pub record Passed : Type 0 where
     pub pair : isRefusal (pairRefusal s₁ s₂) ≡ false
     pub room : largerCount s₁ s₂ ≤ len
-    pub inside : z .position < gridSize (sizesOf s₁)
+    pub inside : σ .position < gridSize (sizesOf s₁)
 
-  pub passed : isRefusal (continueRefusal s₁ s₂ z B len) ≡ false → Passed
+  pub passed : isRefusal (continueRefusal s₁ s₂ σ B len) ≡ false → Passed
   unfolding continueRefusal stateRefusal
   passed e =
       let p₁ = cond-passed (eqb B 0) (refusedBy 11) _ (λ _. refl) e in
       let p₂ = cond-passed (isRefusal (pairRefusal s₁ s₂)) (pairRefusal s₁ s₂) _ (λ r. r) (p₁ .1) in
       let p₃ = cond-passed (shortScratch (largerCount s₁ s₂) len) (refusedBy 12) _ (λ _. refl) (p₂ .1) in
-      let p₄ = cond-passed (not (sameSizes (z .sizes) (sizesOf s₁))) (refusedBy 101) _ (λ _. refl) (p₃ .1) in
-      let p₅ = cond-passed (misplaced (gridSize (sizesOf s₁)) (z .position) (z .mark)) (refusedBy 102) _ (λ _. refl) (p₄ .1) in
-      let p₆ = cond-passed (isClosed (z .mark)) (refusedBy 103) (refusedBy 0) (λ _. refl) (p₅ .1) in
+      let p₄ = cond-passed (not (sameSizes (σ .sizes) (sizesOf s₁))) (refusedBy 101) _ (λ _. refl) (p₃ .1) in
+      let p₅ = cond-passed (misplaced (gridSize (sizesOf s₁)) (σ .position) (σ .mark)) (refusedBy 102) _ (λ _. refl) (p₄ .1) in
+      let p₆ = cond-passed (isClosed (σ .mark)) (refusedBy 103) (refusedBy 0) (λ _. refl) (p₅ .1) in
       record {
         pair = p₂ .0;
         room = ltb-false len (largerCount s₁ s₂) (p₃ .0);
-        inside = open-inside _ _ (z .mark) (p₅ .0) (p₆ .0);
+        inside = open-inside _ _ (σ .mark) (p₅ .0) (p₆ .0);
       }
 
   pub continued-refused :
-      isRefusal (continueRefusal s₁ s₂ z B len) ≡ true →
-      handed z (refusedAnswer (continueRefusal s₁ s₂ z B len)) ≡ continued s₁ s₂ z B len
+      isRefusal (continueRefusal s₁ s₂ σ B len) ≡ true →
+      handed σ (refusedAnswer (continueRefusal s₁ s₂ σ B len)) ≡ continued s₁ s₂ σ B len
   unfolding continued
   continued-refused e = rw e
 
-  pub continued-accepted : isRefusal (continueRefusal s₁ s₂ z B len) ≡ false → advanced s₁ s₂ z B ≡ continued s₁ s₂ z B len
+  pub continued-accepted : isRefusal (continueRefusal s₁ s₂ σ B len) ≡ false → advanced s₁ s₂ σ B ≡ continued s₁ s₂ σ B len
   unfolding continued
   continued-accepted e = rw e
 
-module _ (s₁ s₂ : List ℕ) (z : Session) (B : ℕ) (scratch : List ℕ) where
-  pub scratch-refused : isRefusal (continueRefusal s₁ s₂ z B (length scratch)) ≡ true → scratch ≡ scratchAfter s₁ s₂ z B scratch
-  unfolding scratchAfter
+module _ (s₁ s₂ : List ℕ) (σ : Session) (B : ℕ) (scratch : List ℕ) where
+  pub scratch-refused : isRefusal (continueRefusal s₁ s₂ σ B (length scratch)) ≡ true → scratch ≡ continuedScratch s₁ s₂ σ B scratch
+  unfolding continuedScratch
   scratch-refused e = rw e
 
   pub scratch-accepted :
-      isRefusal (continueRefusal s₁ s₂ z B (length scratch)) ≡ false →
-      replicate (largerCount s₁ s₂) 0 ++ drop (largerCount s₁ s₂) scratch ≡ scratchAfter s₁ s₂ z B scratch
-  unfolding scratchAfter
+      isRefusal (continueRefusal s₁ s₂ σ B (length scratch)) ≡ false →
+      replicate (largerCount s₁ s₂) 0 ++ drop (largerCount s₁ s₂) scratch ≡ continuedScratch s₁ s₂ σ B scratch
+  unfolding continuedScratch
   scratch-accepted e = rw e
 
 -- a call's refusal, in the two steps in which it is judged
-module _ (s₁ s₂ : List ℕ) (z : Session) (B len : ℕ) where
-  pub refused-by-files : isRefusal (filesRefusal s₁ s₂ B) ≡ true → continueRefusal s₁ s₂ z B len ≡ filesRefusal s₁ s₂ B
+module _ (s₁ s₂ : List ℕ) (σ : Session) (B len : ℕ) where
+  pub refused-by-files : isRefusal (filesRefusal s₁ s₂ B) ≡ true → continueRefusal s₁ s₂ σ B len ≡ filesRefusal s₁ s₂ B
   unfolding continueRefusal filesRefusal
   refused-by-files r = files (eqb B 0) r
     where
       files :
           (b : Bool) → isRefusal (cond b (refusedBy 11) (pairRefusal s₁ s₂)) ≡ true →
           cond b (refusedBy 11)
-          (cond (isRefusal (pairRefusal s₁ s₂)) (pairRefusal s₁ s₂) (roomRefusal s₁ s₂ z len))
+          (cond (isRefusal (pairRefusal s₁ s₂)) (pairRefusal s₁ s₂) (roomRefusal s₁ s₂ σ len))
           ≡ cond b (refusedBy 11) (pairRefusal s₁ s₂)
       files true e = refl
       files false e = rw e
 
-  pub refused-by-room : isRefusal (filesRefusal s₁ s₂ B) ≡ false → continueRefusal s₁ s₂ z B len ≡ roomRefusal s₁ s₂ z len
+  pub refused-by-room : isRefusal (filesRefusal s₁ s₂ B) ≡ false → continueRefusal s₁ s₂ σ B len ≡ roomRefusal s₁ s₂ σ len
   unfolding continueRefusal filesRefusal
   refused-by-room r =
       let p₁ = cond-passed (eqb B 0) (refusedBy 11) (pairRefusal s₁ s₂) (λ _. refl) r in

@@ -9,58 +9,59 @@ use Prim.Native.Nat.{ℕ, _+_, _<_, _≤_, min}
 use native.Mathlib.Nat.{add-zero, zero-add, add-assoc}
 use native.Mathlib.Decide.{decLt}
 use native.Mathlib.Omega.{arith}
+use Rattle.sizes.specs.Sizes.{isRefusal}
 use Rattle.sessions.specs.Calls.{Call, answerTo, sessionAfter, answers, IsRefused, IsVerdict, acceptedBudget, budgets, vectorsRun, Each}
 use Rattle.sessions.specs.Demand3.{OwnFiles, Allowed, stop, Settled, Finished, start, Whole, Demand3}
-use Rattle.sessions.specs.Session.{pairRefusal, isRefusal, opened}
+use Rattle.sessions.specs.Session.{pairRefusal, opened}
 use Rattle.sessions.specs.declared.Answer.{Answer}
 use Rattle.sessions.specs.declared.Session.{Session}
 use Rattle.sessions.proofs.Pair.{pair-accepted}
 use Rattle.sessions.proofs.Step.{mark-open, At, Stepped, own-refused, call-step}
 use Rattle.sessions.proofs.Verdict.{stopped, given, marked, settled}
 
--- the calls cs, from the session z that accepted budgets of S in all have led to
-record Onward (f₁ f₂ : List ℕ) (S : ℕ) (z : Session) (cs : List Call) : Type 0 where
-  run : vectorsRun (answers z cs) + min S (stop f₁ f₂) ≡ min (S + budgets z cs) (stop f₁ f₂)
-  at : At f₁ f₂ (S + budgets z cs) (sessionAfter z cs)
-  silent : S + budgets z cs < stop f₁ f₂ → Each (λ a. ¬ IsVerdict a) (answers z cs)
-  finished : S < stop f₁ f₂ → stop f₁ f₂ ≤ S + budgets z cs → Finished f₁ f₂ z cs
-  closed : stop f₁ f₂ ≤ S → Each (λ a. IsRefused a × (¬ IsVerdict a)) (answers z cs)
+-- the calls cs, from the session σ that accepted budgets of S in all have led to
+record Onward (f₁ f₂ : List ℕ) (S : ℕ) (σ : Session) (cs : List Call) : Type 0 where
+  run : vectorsRun (answers σ cs) + min S (stop f₁ f₂) ≡ min (S + budgets σ cs) (stop f₁ f₂)
+  at : At f₁ f₂ (S + budgets σ cs) (sessionAfter σ cs)
+  silent : S + budgets σ cs < stop f₁ f₂ → Each (λ a. ¬ IsVerdict a) (answers σ cs)
+  finished : S < stop f₁ f₂ → stop f₁ f₂ ≤ S + budgets σ cs → Finished f₁ f₂ σ cs
+  closed : stop f₁ f₂ ≤ S → Each (λ a. IsRefused a × (¬ IsVerdict a)) (answers σ cs)
 
 -- the calls before one of an allowed list are allowed
-allowed-before : (f₁ f₂ : List ℕ) (z : Session) (before rest : List Call) → Allowed f₁ f₂ z (before ++ rest) → Allowed f₁ f₂ z before
-allowed-before f₁ f₂ z [] rest allowed = tt
-allowed-before f₁ f₂ z (c ∷ before) rest allowed = (allowed .0, allowed-before f₁ f₂ (answerTo z c .session) before rest (allowed .1))
+allowed-before : (f₁ f₂ : List ℕ) (σ : Session) (before rest : List Call) → Allowed f₁ f₂ σ (before ++ rest) → Allowed f₁ f₂ σ before
+allowed-before f₁ f₂ σ [] rest allowed = tt
+allowed-before f₁ f₂ σ (c ∷ before) rest allowed = (allowed .0, allowed-before f₁ f₂ (answerTo σ c .session) before rest (allowed .1))
 
 -- and so is the call itself
 allowed-at :
-    (f₁ f₂ : List ℕ) (z : Session) (before : List Call) (c : Call) (after : List Call) → Allowed f₁ f₂ z (before ++ c ∷ after) →
-    OwnFiles f₁ f₂ c ⊎ IsRefused (answerTo (sessionAfter z before) c .answer)
+    (f₁ f₂ : List ℕ) (σ : Session) (before : List Call) (c : Call) (after : List Call) → Allowed f₁ f₂ σ (before ++ c ∷ after) →
+    OwnFiles f₁ f₂ c ⊎ IsRefused (answerTo (sessionAfter σ before) c .answer)
 unfolding sessionAfter
-allowed-at f₁ f₂ z [] c after allowed = allowed .0
-allowed-at f₁ f₂ z (b ∷ before) c after allowed = allowed-at f₁ f₂ (answerTo z b .session) before c after (allowed .1)
+allowed-at f₁ f₂ σ [] c after allowed = allowed .0
+allowed-at f₁ f₂ σ (b ∷ before) c after allowed = allowed-at f₁ f₂ (answerTo σ b .session) before c after (allowed .1)
 
 -- what holds of each answer holds of the one to a call of the list
 each-at :
-    (P : Answer → Type 0) (z : Session) (before : List Call) (c : Call) (after : List Call) → Each P (answers z (before ++ c ∷ after)) →
-    P (answerTo (sessionAfter z before) c .answer)
+    (P : Answer → Type 0) (σ : Session) (before : List Call) (c : Call) (after : List Call) → Each P (answers σ (before ++ c ∷ after)) →
+    P (answerTo (sessionAfter σ before) c .answer)
 unfolding sessionAfter answers
-each-at P z [] c after all = all .0
-each-at P z (b ∷ before) c after all = each-at P (answerTo z b .session) before c after (all .1)
+each-at P σ [] c after all = all .0
+each-at P σ (b ∷ before) c after all = each-at P (answerTo σ b .session) before c after (all .1)
 
 module _ (f₁ f₂ : List ℕ) (pair : isRefusal (pairRefusal f₁ f₂) ≡ false) where
   abbrev D : ℕ
   D = stop f₁ f₂
 
-  module _ (S : ℕ) (z : Session) (c : Call) (cs : List Call) where
+  module _ (S : ℕ) (σ : Session) (c : Call) (cs : List Call) where
     abbrev n : ℕ
-    n = acceptedBudget z c
+    n = acceptedBudget σ c
 
     abbrev z′ : Session
-    z′ = answerTo z c .session
+    z′ = answerTo σ c .session
 
-    module _ (call : Stepped f₁ f₂ S n (answerTo z c)) (rest : Onward f₁ f₂ (S + n) z′ cs) where
+    module _ (call : Stepped f₁ f₂ S n (answerTo σ c)) (rest : Onward f₁ f₂ (S + n) z′ cs) where
       -- the call c gives the verdict
-      finished-here : S < D → D ≤ S + n → Finished f₁ f₂ z (c ∷ cs)
+      finished-here : S < D → D ≤ S + n → Finished f₁ f₂ σ (c ∷ cs)
       unfolding sessionAfter answers
       finished-here l h =
           let v = call .verdict l h in
@@ -77,7 +78,7 @@ module _ (f₁ f₂ : List ℕ) (pair : isRefusal (pairRefusal f₁ f₂) ≡ fa
           }
 
       -- a later one does
-      finished-later : S + n < D → Finished f₁ f₂ z′ cs → Finished f₁ f₂ z (c ∷ cs)
+      finished-later : S + n < D → Finished f₁ f₂ z′ cs → Finished f₁ f₂ σ (c ∷ cs)
       unfolding sessionAfter answers
       finished-later l f =
           record {
@@ -92,7 +93,7 @@ module _ (f₁ f₂ : List ℕ) (pair : isRefusal (pairRefusal f₁ f₂) ≡ fa
             marked = f .marked;
           }
 
-      onward-call : Onward f₁ f₂ S z (c ∷ cs)
+      onward-call : Onward f₁ f₂ S σ (c ∷ cs)
       unfolding sessionAfter answers budgets vectorsRun
       onward-call =
           record {
@@ -107,9 +108,9 @@ module _ (f₁ f₂ : List ℕ) (pair : isRefusal (pairRefusal f₁ f₂) ≡ fa
             closed = λ h. (call .closed h, rest .closed (omega arith));
           }
 
-  onward-none : (S : ℕ) (z : Session) → At f₁ f₂ S z → Onward f₁ f₂ S z []
+  onward-empty : (S : ℕ) (σ : Session) → At f₁ f₂ S σ → Onward f₁ f₂ S σ []
   unfolding sessionAfter answers budgets vectorsRun
-  onward-none S z at =
+  onward-empty S σ at =
       record {
         run = omega arith;
         at = rw add-zero at;
@@ -118,18 +119,18 @@ module _ (f₁ f₂ : List ℕ) (pair : isRefusal (pairRefusal f₁ f₂) ≡ fa
         closed = λ _. tt;
       }
 
-  onward : (S : ℕ) (z : Session) → At f₁ f₂ S z → (cs : List Call) → Allowed f₁ f₂ z cs → Onward f₁ f₂ S z cs
-  onward S z at [] allowed = onward-none S z at
-  onward S z at (c ∷ cs) allowed =
-      let call = call-step f₁ f₂ S z at pair c (allowed .0) in
-      onward-call S z c cs call (onward (S + acceptedBudget z c) (answerTo z c .session) (call .next) cs (allowed .1))
+  onward : (S : ℕ) (σ : Session) → At f₁ f₂ S σ → (cs : List Call) → Allowed f₁ f₂ σ cs → Onward f₁ f₂ S σ cs
+  onward S σ at [] allowed = onward-empty S σ at
+  onward S σ at (c ∷ cs) allowed =
+      let call = call-step f₁ f₂ S σ at pair c (allowed .0) in
+      onward-call S σ c cs call (onward (S + acceptedBudget σ c) (answerTo σ c .session) (call .next) cs (allowed .1))
 
-  stop-above : 0 < D
-  stop-above = stopped f₁ f₂ pair .low
+  stop-least : 0 < D
+  stop-least = stopped f₁ f₂ pair .low
 
   at-start : At f₁ f₂ 0 (start f₁ f₂)
   unfolding opened
-  at-start = rw pair (record { sizes = refl; position = omega arith; mark = sym (mark-open f₁ f₂ 0 stop-above) })
+  at-start = rw pair (record { sizes = refl; position = omega arith; mark = sym (mark-open f₁ f₂ 0 stop-least) })
 
   whole : (cs : List Call) → Allowed f₁ f₂ (start f₁ f₂) cs → Whole f₁ f₂ cs
   whole cs allowed =
@@ -144,7 +145,7 @@ module _ (f₁ f₂ : List ℕ) (pair : isRefusal (pairRefusal f₁ f₂) ≡ fa
         run = omega (arith, all .run);
         position = at .position;
         unfinished = λ l. (at .mark ∙ mark-open f₁ f₂ _ l, all .silent (omega arith));
-        finished = λ h. all .finished stop-above (omega arith);
+        finished = λ h. all .finished stop-least (omega arith);
       }
 
   -- a call of the list that gives a verdict: the verdict is right, and the list has run to the stop

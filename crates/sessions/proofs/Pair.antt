@@ -17,10 +17,10 @@ use Rattle.file.proofs.Accepted.{accepted}
 use Rattle.file.proofs.Number.{refusal-number}
 use Rattle.grid.proofs.Axes.{never-large}
 use Rattle.ranges.proofs.Search.{every-at}
-use Rattle.sizes.specs.Sizes.{maxInputs, refusedBy}
+use Rattle.sizes.specs.Sizes.{maxInputs, refusedBy, isRefusal}
 use Rattle.sizes.specs.declared.Refusal.{Refusal}
 use Rattle.sizes.specs.declared.Sizes.{Sizes}
-use Rattle.sessions.specs.Session.{sameSizes, pairRefusal, isRefusal, opened}
+use Rattle.sessions.specs.Session.{sameSizes, pairRefusal, opened}
 
 module _ (s₁ s₂ : List ℕ) where
   pub pair-first : ¬ (fileNumber s₁ ≡ 0) → pairRefusal s₁ s₂ ≡ refusalOf 1 s₁

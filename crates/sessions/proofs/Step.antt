@@ -19,14 +19,14 @@ use Rattle.fields.specs.File.{sizesOf}
 use Rattle.grid.specs.Grid.{axesOf, gridSize}
 use Rattle.places.specs.Places.{vectorAt}
 use Rattle.ranges.specs.Search.{first}
-use Rattle.ranges.proofs.Search.{every-of, first-high, first-found, first-before, first-unique, first-absent, true-or-false}
-use Rattle.sizes.specs.Sizes.{maxInputs, accepted}
+use Rattle.ranges.proofs.Search.{every-of, first-most, first-found, first-before, first-unique, first-absent, true-or-false}
+use Rattle.sizes.specs.Sizes.{maxInputs, accepted, isRefusal}
 use Rattle.sizes.specs.declared.Refusal.{Refusal}
 use Rattle.sizes.specs.declared.Sizes.{Sizes}
 use Rattle.grid_theorem.specs.Comparison.{firstDifference}
 use Rattle.sessions.specs.Calls.{Call, answerTo, acceptedBudget, IsRefused, IsVerdict}
 use Rattle.sessions.specs.Demand3.{OwnFiles, firstPlace, stop}
-use Rattle.sessions.specs.Session.{sameSizes, pairRefusal, isRefusal, misplaced, isClosed, stateRefusal, continueRefusal, refusedAnswer, plainAnswer, differsAnswer, progress, advanced, continued}
+use Rattle.sessions.specs.Session.{sameSizes, pairRefusal, misplaced, isClosed, stateRefusal, continueRefusal, refusedAnswer, plainAnswer, differsAnswer, progress, advanced, continued}
 use Rattle.sessions.specs.declared.Answer.{Answer}
 use Rattle.sessions.specs.declared.Continued.{Continued}
 use Rattle.sessions.specs.declared.Mark.{Mark}
@@ -42,17 +42,17 @@ same-refl z =
     (every-of _ 0 maxInputs (λ i _ _. eq-eqb (getD (z .widths) i 0) (getD (z .widths) i 0) refl))
 
 -- the answer to an accepted call is no refusal
-pub progress-accepts : (s₁ s₂ : List ℕ) (z : Session) (B G q : ℕ) → progress s₁ s₂ z B G q .answer .refusal ≡ accepted
+pub progress-accepts : (s₁ s₂ : List ℕ) (σ : Session) (B G q : ℕ) → progress s₁ s₂ σ B G q .answer .refusal ≡ accepted
 unfolding progress differsAnswer plainAnswer
-progress-accepts s₁ s₂ z B G q =
+progress-accepts s₁ s₂ σ B G q =
     ⊎-elim
-    (λ (e : ltb q (z .position + min B (G - z .position)) ≡ true). rw e)
-    (λ (e : ltb q (z .position + min B (G - z .position)) ≡ false).
+    (λ (e : ltb q (σ .position + min B (G - σ .position)) ≡ true). rw e)
+    (λ (e : ltb q (σ .position + min B (G - σ .position)) ≡ false).
     ⊎-elim
-    (λ (h : leb G (z .position + B) ≡ true). rw (e, h))
-    (λ (h : leb G (z .position + B) ≡ false). rw (e, h))
-    (true-or-false (leb G (z .position + B))))
-    (true-or-false (ltb q (z .position + min B (G - z .position))))
+    (λ (h : leb G (σ .position + B) ≡ true). rw (e, h))
+    (λ (h : leb G (σ .position + B) ≡ false). rw (e, h))
+    (true-or-false (leb G (σ .position + B))))
+    (true-or-false (ltb q (σ .position + min B (G - σ .position))))
 
 -- neither refused nor spent is a verdict
 no-verdict : (a : Answer) → (a .kind ≡ Refused) ⊎ (a .kind ≡ Spent) → ¬ IsVerdict a
@@ -61,17 +61,17 @@ no-verdict a (inl o) (inr e) = let q : _≡_ {A = ℕ} 0 1 = cc in omega arith
 no-verdict a (inr o) (inl e) = let q : _≡_ {A = ℕ} 0 1 = cc in omega arith
 no-verdict a (inr o) (inr e) = let q : _≡_ {A = ℕ} 0 1 = cc in omega arith
 
-module _ (z : Session) (c : Call) where
+module _ (σ : Session) (c : Call) where
   abbrev pub refusal : Refusal
-  refusal = continueRefusal (c .file₁) (c .file₂) z (c .budget) (c .scratch)
+  refusal = continueRefusal (c .file₁) (c .file₂) σ (c .budget) (c .scratch)
 
   -- a refused call keeps the session
-  pub kept : isRefusal refusal ≡ true → answerTo z c ≡ record { session = z; answer = refusedAnswer refusal }
+  pub kept : isRefusal refusal ≡ true → answerTo σ c ≡ record { session = σ; answer = refusedAnswer refusal }
   unfolding answerTo continued advanced
   kept e = rw e
 
   -- the answer is a refusal exactly where a condition refuses the call
-  pub answer-refusal : isRefusal (answerTo z c .answer .refusal) ≡ isRefusal refusal
+  pub answer-refusal : isRefusal (answerTo σ c .answer .refusal) ≡ isRefusal refusal
   unfolding answerTo continued advanced refusedAnswer
   answer-refusal =
       ⊎-elim
@@ -105,11 +105,11 @@ module _ (f₁ f₂ : List ℕ) where
   unfolding markAt
   mark-equal S l p = rw (le-ltb S D l, le-ltb place G p)
 
-  -- the session z is the one that accepted budgets of S in all have led to
-  pub record At (S : ℕ) (z : Session) : Type 0 where
-    pub sizes : z .sizes ≡ sizesOf f₁
-    pub position : z .position ≡ min S D
-    pub mark : z .mark ≡ markAt S
+  -- the session σ is the one that accepted budgets of S in all have led to
+  pub record At (S : ℕ) (σ : Session) : Type 0 where
+    pub sizes : σ .sizes ≡ sizesOf f₁
+    pub position : σ .position ≡ min S D
+    pub mark : σ .mark ≡ markAt S
 
   -- the answer a that gives the verdict, after n vectors
   pub data Verdict (a : Answer) : Type 0 where
@@ -128,8 +128,8 @@ module _ (f₁ f₂ : List ℕ) where
   unfolding firstPlace firstDifference outputsDiffer gridSize
   place-first = refl
 
-  pub place-high : place ≤ G
-  place-high = omega (arith, place-first, first-high (outputsDiffer f₁ f₂) 0 G)
+  pub place-most : place ≤ G
+  place-most = omega (arith, place-first, first-most (outputsDiffer f₁ f₂) 0 G)
 
   none-before : (i : ℕ) → i < place → outputsDiffer f₁ f₂ i ≡ false
   none-before i l = first-before (outputsDiffer f₁ f₂) 0 G i (omega arith) (omega (arith, place-first))
@@ -151,14 +151,14 @@ module _ (f₁ f₂ : List ℕ) where
       elim (decLt place G)
       [ yes l ↦ let d = stop-differs l in omega arith | no g ↦ let d = stop-agrees (omega arith) in omega arith ]
 
-  module _ (S : ℕ) (z : Session) (at : At S z) where
+  module _ (S : ℕ) (σ : Session) (at : At S σ) where
     -- a refused call, whatever its files
-    refused-call : (c : Call) → IsRefused (answerTo z c .answer) → Stepped S (acceptedBudget z c) (answerTo z c)
+    refused-call : (c : Call) → IsRefused (answerTo σ c .answer) → Stepped S (acceptedBudget σ c) (answerTo σ c)
     unfolding acceptedBudget refusedAnswer
     refused-call c r =
-        let e = sym (answer-refusal z c) ∙ r in
-        let silent = no-verdict (refusedAnswer (refusal z c)) (inl refl) in
-        rw (r, kept z c e)
+        let e = sym (answer-refusal σ c) ∙ r in
+        let silent = no-verdict (refusedAnswer (refusal σ c)) (inl refl) in
+        rw (r, kept σ c e)
         (record {
           next = rw add-zero at;
           run = omega arith;
@@ -168,10 +168,10 @@ module _ (f₁ f₂ : List ℕ) where
         })
 
     -- an accepted call runs from place S on
-    here : S < D → z .position ≡ S
+    here : S < D → σ .position ≡ S
     here l = omega (arith, at .position)
 
-    closed-mark : D ≤ S → isClosed (z .mark) ≡ true
+    closed-mark : D ≤ S → isClosed (σ .mark) ≡ true
     unfolding isClosed
     closed-mark l =
         elim (decLt place G)
@@ -184,10 +184,10 @@ module _ (f₁ f₂ : List ℕ) where
       abbrev len : ℕ
       len = c .scratch
 
-      accepted-call : 0 < B → largerCount f₁ f₂ ≤ len → S < D → continueRefusal f₁ f₂ z B len ≡ accepted
+      accepted-call : 0 < B → largerCount f₁ f₂ ≤ len → S < D → continueRefusal f₁ f₂ σ B len ≡ accepted
       unfolding continueRefusal stateRefusal misplaced isClosed
       accepted-call b n l =
-          let inside : z .position < G = omega (arith, at .position, stop-range .0) in
+          let inside : σ .position < G = omega (arith, at .position, stop-range .0) in
           rw (
             ne-eqb B 0 (omega arith),
             pair,
@@ -196,23 +196,23 @@ module _ (f₁ f₂ : List ℕ) where
             same-refl,
             at .mark,
             mark-open S l,
-            lt-ltb (z .position) G inside,
+            lt-ltb (σ .position) G inside,
           )
 
-      closed-call : 0 < B → largerCount f₁ f₂ ≤ len → D ≤ S → isRefusal (continueRefusal f₁ f₂ z B len) ≡ true
+      closed-call : 0 < B → largerCount f₁ f₂ ≤ len → D ≤ S → isRefusal (continueRefusal f₁ f₂ σ B len) ≡ true
       unfolding continueRefusal stateRefusal
       closed-call b n l =
           rw (ne-eqb B 0 (omega arith), pair, le-ltb len (largerCount f₁ f₂) n, at .sizes, same-refl, closed-mark l)
           (⊎-elim
-          (λ (e : misplaced G (z .position) (z .mark) ≡ true). rw e)
-          (λ (e : misplaced G (z .position) (z .mark) ≡ false). rw e)
-          (true-or-false (misplaced G (z .position) (z .mark))))
+          (λ (e : misplaced G (σ .position) (σ .mark) ≡ true). rw e)
+          (λ (e : misplaced G (σ .position) (σ .mark) ≡ false). rw e)
+          (true-or-false (misplaced G (σ .position) (σ .mark))))
 
-      empty-call : B ≡ 0 → isRefusal (continueRefusal f₁ f₂ z B len) ≡ true
+      empty-call : B ≡ 0 → isRefusal (continueRefusal f₁ f₂ σ B len) ≡ true
       unfolding continueRefusal stateRefusal
       empty-call b = rw (eq-eqb B 0 b)
 
-      short-call : 0 < B → len < largerCount f₁ f₂ → isRefusal (continueRefusal f₁ f₂ z B len) ≡ true
+      short-call : 0 < B → len < largerCount f₁ f₂ → isRefusal (continueRefusal f₁ f₂ σ B len) ≡ true
       unfolding continueRefusal stateRefusal
       short-call b l = rw (ne-eqb B 0 (omega arith), pair, lt-ltb len (largerCount f₁ f₂) l)
 
@@ -230,7 +230,7 @@ module _ (f₁ f₂ : List ℕ) where
             | no e ↦ inl (inl (omega arith))
           ]
 
-      barred : Bar → isRefusal (continueRefusal f₁ f₂ z B len) ≡ true
+      barred : Bar → isRefusal (continueRefusal f₁ f₂ σ B len) ≡ true
       barred (inl b) = empty-call b
       barred (inr (inl l)) = elim (decLt 0 B) [ yes b ↦ short-call b l | no e ↦ empty-call (omega arith) ]
       barred (inr (inr l)) =
@@ -239,7 +239,7 @@ module _ (f₁ f₂ : List ℕ) where
             | no e ↦ empty-call (omega arith)
           ]
 
-      refused-exactly : (isRefusal (continueRefusal f₁ f₂ z B len) ≡ true) ↔ Bar
+      refused-exactly : (isRefusal (continueRefusal f₁ f₂ σ B len) ≡ true) ↔ Bar
       refused-exactly = (
         λ r.
             ⊎-elim
@@ -251,7 +251,7 @@ module _ (f₁ f₂ : List ℕ) where
 
       accepted-progress :
           0 < B → largerCount f₁ f₂ ≤ len → S < D →
-          continued f₁ f₂ z B len ≡ progress f₁ f₂ z B G (first (outputsDiffer f₁ f₂) S (min B (G - S)))
+          continued f₁ f₂ σ B len ≡ progress f₁ f₂ σ B G (first (outputsDiffer f₁ f₂) S (min B (G - S)))
       unfolding continued advanced
       accepted-progress b n l = rw (accepted-call b n l, here l)
 
@@ -270,9 +270,9 @@ module _ (f₁ f₂ : List ℕ) where
       module _ (b : 0 < B) (n : largerCount f₁ f₂ ≤ len) (l : S < D) where
         differs-call :
             place < G → D ≤ S + B →
-            continued f₁ f₂ z B len ≡
+            continued f₁ f₂ σ B len ≡
             record {
-              session = record { sizes = z .sizes; position = place + 1; mark = Differ };
+              session = record { sizes = σ .sizes; position = place + 1; mark = Differ };
               answer = differsAnswer f₁ f₂ (vectorAt (axesOf (sizesOf f₁)) place) (place + 1 - S);
             }
         unfolding progress
@@ -282,9 +282,9 @@ module _ (f₁ f₂ : List ℕ) where
 
         equivalent-call :
             G ≤ place → D ≤ S + B →
-            continued f₁ f₂ z B len ≡
+            continued f₁ f₂ σ B len ≡
             record {
-              session = record { sizes = z .sizes; position = G; mark = Equal };
+              session = record { sizes = σ .sizes; position = G; mark = Equal };
               answer = plainAnswer Equivalent (G - S);
             }
         unfolding progress
@@ -300,9 +300,9 @@ module _ (f₁ f₂ : List ℕ) where
 
         spent-call :
             S + B < D →
-            continued f₁ f₂ z B len ≡
+            continued f₁ f₂ σ B len ≡
             record {
-              session = record { sizes = z .sizes; position = S + B; mark = Open };
+              session = record { sizes = σ .sizes; position = S + B; mark = Open };
               answer = plainAnswer Spent B;
             }
         unfolding progress
@@ -311,7 +311,7 @@ module _ (f₁ f₂ : List ℕ) where
             accepted-progress b n l
             ∙ rw (passed (still h), here l, le-ltb (S + min B (G - S)) _ (le-refl _), lt-leb G (S + B) (omega arith))
 
-        differs-step : place < G → D ≤ S + B → Stepped S B (continued f₁ f₂ z B len)
+        differs-step : place < G → D ≤ S + B → Stepped S B (continued f₁ f₂ σ B len)
         unfolding differsAnswer
         differs-step p h =
             let d = stop-differs p in
@@ -324,7 +324,7 @@ module _ (f₁ f₂ : List ℕ) where
               closed = λ k. absurd (omega arith);
             })
 
-        equivalent-step : G ≤ place → D ≤ S + B → Stepped S B (continued f₁ f₂ z B len)
+        equivalent-step : G ≤ place → D ≤ S + B → Stepped S B (continued f₁ f₂ σ B len)
         unfolding plainAnswer
         equivalent-step p h =
             let d = stop-agrees p in
@@ -337,7 +337,7 @@ module _ (f₁ f₂ : List ℕ) where
               closed = λ k. absurd (omega arith);
             })
 
-        spent-step : S + B < D → Stepped S B (continued f₁ f₂ z B len)
+        spent-step : S + B < D → Stepped S B (continued f₁ f₂ σ B len)
         unfolding plainAnswer
         spent-step h =
             rw (spent-call h)
@@ -349,24 +349,24 @@ module _ (f₁ f₂ : List ℕ) where
               closed = λ k. absurd (omega arith);
             })
 
-        accepted-step : Stepped S B (continued f₁ f₂ z B len)
+        accepted-step : Stepped S B (continued f₁ f₂ σ B len)
         accepted-step =
             elim (decLt (S + B) D) [
               | yes h ↦ spent-step h
               | no k ↦ elim (decLt place G) [ yes p ↦ differs-step p (omega arith) | no g ↦ equivalent-step (omega arith) (omega arith) ]
             ]
 
-      own-answer : OwnFiles f₁ f₂ c → answerTo z c ≡ continued f₁ f₂ z B len
+      own-answer : OwnFiles f₁ f₂ c → answerTo σ c ≡ continued f₁ f₂ σ B len
       unfolding answerTo
       own-answer own = rw (own .first, own .second)
 
-      own-refusal : OwnFiles f₁ f₂ c → isRefusal (answerTo z c .answer .refusal) ≡ isRefusal (continueRefusal f₁ f₂ z B len)
-      own-refusal own = answer-refusal z c ∙ rw (own .first, own .second)
+      own-refusal : OwnFiles f₁ f₂ c → isRefusal (answerTo σ c .answer .refusal) ≡ isRefusal (continueRefusal f₁ f₂ σ B len)
+      own-refusal own = answer-refusal σ c ∙ rw (own .first, own .second)
 
-      pub own-refused : OwnFiles f₁ f₂ c → IsRefused (answerTo z c .answer) ↔ Bar
+      pub own-refused : OwnFiles f₁ f₂ c → IsRefused (answerTo σ c .answer) ↔ Bar
       own-refused own = rw (own-refusal own) refused-exactly
 
-      own-call : OwnFiles f₁ f₂ c → Stepped S (acceptedBudget z c) (answerTo z c)
+      own-call : OwnFiles f₁ f₂ c → Stepped S (acceptedBudget σ c) (answerTo σ c)
       unfolding acceptedBudget
       own-call own =
           ⊎-elim
@@ -376,5 +376,5 @@ module _ (f₁ f₂ : List ℕ) where
           barred-or-free
 
       -- a call of a list that demand 3 is about
-      pub call-step : OwnFiles f₁ f₂ c ⊎ IsRefused (answerTo z c .answer) → Stepped S (acceptedBudget z c) (answerTo z c)
+      pub call-step : OwnFiles f₁ f₂ c ⊎ IsRefused (answerTo σ c .answer) → Stepped S (acceptedBudget σ c) (answerTo σ c)
       call-step = ⊎-elim own-call (refused-call c)

@@ -12,18 +12,19 @@ use Rattle.file.specs.Accepted.{Accepted}
 use Rattle.fields.specs.File.{sizesOf}
 use Rattle.fields.specs.Steps.{stepsOf}
 use Rattle.grid.specs.Grid.{widthsOf, axesOf, gridSize}
-use Rattle.grid.proofs.Axes.{size-least}
+use Rattle.plan.proofs.Axes.{file-grid-least}
 use Rattle.places.specs.Places.{vectorAt}
+use Rattle.sizes.specs.Sizes.{isRefusal}
 use Rattle.sizes.specs.declared.Sizes.{Sizes}
 use Rattle.grid_theorem.specs.Comparison.{Agree, IsFirst}
 use Rattle.grid_theorem.specs.Statement.{OnGrid}
 use Rattle.grid_theorem.proofs.Grid.{gridTheorem}
 use Rattle.sessions.specs.Calls.{IsVerdict}
 use Rattle.sessions.specs.Demand3.{firstPlace, stop, FullWidth, stopVector, StopInRange, Settled, MarkOf}
-use Rattle.sessions.specs.Session.{pairRefusal, isRefusal, plainAnswer, differsAnswer}
+use Rattle.sessions.specs.Session.{pairRefusal, plainAnswer, differsAnswer}
 use Rattle.sessions.specs.declared.Answer.{Answer}
 use Rattle.sessions.proofs.Pair.{comparable}
-use Rattle.sessions.proofs.Step.{markAt, mark-differ, mark-equal, Verdict, differs, equivalent, place-high, stop-differs, stop-range}
+use Rattle.sessions.proofs.Step.{markAt, mark-differ, mark-equal, Verdict, differs, equivalent, place-most, stop-differs, stop-range}
 
 pub given : (f₁ f₂ : List ℕ) (a : Answer) → Verdict f₁ f₂ a → IsVerdict a
 unfolding plainAnswer differsAnswer
@@ -52,13 +53,8 @@ module _ (f₁ f₂ : List ℕ) (pair : isRefusal (pairRefusal f₁ f₂) ≡ fa
   told : Accepted f₁ × (m ≡ sizesOf f₂ .m)
   told = let c = comparable f₁ f₂ pair in (c .sound₁, ap (λ (z : Sizes). z .m) (c .same))
 
-  -- the grid has a vector
-  pub grid-least : 1 ≤ gridSize (sizesOf f₁)
-  unfolding gridSize axesOf
-  grid-least = size-least m (told .0 .outputLow) (told .0 .outputHigh) widths
-
   pub stopped : StopInRange f₁ f₂
-  stopped = let r = stop-range f₁ f₂ in record { low = r .1 grid-least; high = r .0 }
+  stopped = let r = stop-range f₁ f₂ in record { low = r .1 (file-grid-least f₁ (told .0)); high = r .0 }
 
   onGrid : OnGrid m widths (stepsOf f₁) (stepsOf f₂)
   onGrid = gridTheorem m (told .0 .outputLow) (told .0 .outputHigh) widths (stepsOf f₁) (stepsOf f₂)
@@ -72,7 +68,7 @@ module _ (f₁ f₂ : List ℕ) (pair : isRefusal (pairRefusal f₁ f₂) ≡ fa
   all-equal : gridSize (sizesOf f₁) ≤ place → (x : List ℕ) → FullWidth f₁ x → outputOf f₁ x ≡ outputOf f₂ x
   unfolding gridSize axesOf firstPlace
   all-equal p x b =
-      let none : place ≡ gridSize (sizesOf f₁) = omega (arith, place-high f₁ f₂) in
+      let none : place ≡ gridSize (sizesOf f₁) = omega (arith, place-most f₁ f₂) in
       same-outputs x .1 (onGrid .none none x b)
 
   -- some place does

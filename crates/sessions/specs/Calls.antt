@@ -1,10 +1,10 @@
 -- A list of continue calls, each given the session that the one before it handed back (document 01, 'Sessions').
 --   Call                two files, a budget, and the length of the scratch slice
---   answerTo z c        what the call c answers where it is given the session z
---   sessionAfter z cs   the session that the last of the calls hands back, or z itself where there is none
---   answers z cs        the answers, in order
---   acceptedBudget z c  the budget of the call c where it is accepted, and 0 where it is refused
---   budgets z cs        S: the sum of the accepted budgets
+--   answerTo σ c        what the call c answers where it is given the session σ
+--   sessionAfter σ cs   the session that the last of the calls hands back, or σ itself where there is none
+--   answers σ cs        the answers, in order
+--   acceptedBudget σ c  the budget of the call c where it is accepted, and 0 where it is refused
+--   budgets σ cs        S: the sum of the accepted budgets
 --   vectorsRun l        the sum of the vectors run that the answers carry
 --   Each P l            each of the answers has the property P
 --   IsRefused a         the answer is a refusal
@@ -14,7 +14,8 @@ use mathlib.Core.Bool.{true, cond}
 use mathlib.Core.Logic.{_⊎_}
 use mathlib.Core.List.{List, [], _∷_}
 use Prim.Native.Nat.{ℕ, _+_}
-use Rattle.sessions.specs.Session.{isRefusal, continued}
+use Rattle.sizes.specs.Sizes.{isRefusal}
+use Rattle.sessions.specs.Session.{continued}
 use Rattle.sessions.specs.declared.Answer.{Answer}
 use Rattle.sessions.specs.declared.Continued.{Continued}
 use Rattle.sessions.specs.declared.Kind.the-variants.{Equivalent, Differs}
@@ -27,15 +28,15 @@ pub record Call : Type 0 where
   pub scratch : ℕ
 
 unfoldable pub answerTo : Session → Call → Continued
-answerTo z c = continued (c .file₁) (c .file₂) z (c .budget) (c .scratch)
+answerTo σ c = continued (c .file₁) (c .file₂) σ (c .budget) (c .scratch)
 
 unfoldable pub sessionAfter : Session → List Call → Session
-sessionAfter z [] = z
-sessionAfter z (c ∷ cs) = sessionAfter (answerTo z c .session) cs
+sessionAfter σ [] = σ
+sessionAfter σ (c ∷ cs) = sessionAfter (answerTo σ c .session) cs
 
 unfoldable pub answers : Session → List Call → List Answer
-answers z [] = []
-answers z (c ∷ cs) = answerTo z c .answer ∷ answers (answerTo z c .session) cs
+answers σ [] = []
+answers σ (c ∷ cs) = answerTo σ c .answer ∷ answers (answerTo σ c .session) cs
 
 abbrev pub IsRefused : Answer → Type 0
 IsRefused a = isRefusal (a .refusal) ≡ true
@@ -44,11 +45,11 @@ abbrev pub IsVerdict : Answer → Type 0
 IsVerdict a = (a .kind ≡ Equivalent) ⊎ (a .kind ≡ Differs)
 
 unfoldable pub acceptedBudget : Session → Call → ℕ
-acceptedBudget z c = cond (isRefusal (answerTo z c .answer .refusal)) 0 (c .budget)
+acceptedBudget σ c = cond (isRefusal (answerTo σ c .answer .refusal)) 0 (c .budget)
 
 unfoldable pub budgets : Session → List Call → ℕ
-budgets z [] = 0
-budgets z (c ∷ cs) = acceptedBudget z c + budgets (answerTo z c .session) cs
+budgets σ [] = 0
+budgets σ (c ∷ cs) = acceptedBudget σ c + budgets (answerTo σ c .session) cs
 
 unfoldable pub vectorsRun : List Answer → ℕ
 vectorsRun [] = 0

@@ -1,6 +1,6 @@
 -- Demand 3, as one claim about a whole list of continue calls (document 01, 'Sessions'). It is proved in proofs/Demand3.
 --   OwnFiles f₁ f₂ c     the call c has these two files in this order
---   Allowed f₁ f₂ z cs   each call of the list, from the session z on, has these files in this order, or is refused where it stands
+--   Allowed f₁ f₂ σ cs   each call of the list, from the session σ on, has these files in this order, or is refused where it stands
 --   stop f₁ f₂           D: one more than the place of the first grid vector at which the outputs differ, or G where there is none
 --   StopInRange f₁ f₂    D is from 1 to G
 --   Whole f₁ f₂ cs       what holds after the list cs, which starts from the session that opening gave:
@@ -30,7 +30,7 @@ use Rattle.grid.specs.Grid.{widthsOf, axesOf, gridSize}
 use Rattle.places.specs.Places.{Below, vectorAt}
 use Rattle.grid_theorem.specs.Comparison.{firstDifference, IsFirst}
 use Rattle.sessions.specs.Calls.{Call, answerTo, sessionAfter, answers, IsRefused, IsVerdict, budgets, vectorsRun, Each}
-use Rattle.vectors.specs.Vectors.{held}
+use Rattle.vectors.specs.Vectors.{padded}
 use Rattle.sessions.specs.Session.{opened}
 use Rattle.sessions.specs.declared.Answer.{Answer}
 use Rattle.sessions.specs.declared.Mark.{Mark}
@@ -43,8 +43,8 @@ pub record OwnFiles (f₁ f₂ : List ℕ) (c : Call) : Type 0 where
   pub second : c .file₂ ≡ f₂
 
 abbrev pub Allowed : List ℕ → List ℕ → Session → List Call → Type 0
-Allowed f₁ f₂ z [] = Unit {0}
-Allowed f₁ f₂ z (c ∷ cs) = (OwnFiles f₁ f₂ c ⊎ IsRefused (answerTo z c .answer)) × Allowed f₁ f₂ (answerTo z c .session) cs
+Allowed f₁ f₂ σ [] = Unit {0}
+Allowed f₁ f₂ σ (c ∷ cs) = (OwnFiles f₁ f₂ c ⊎ IsRefused (answerTo σ c .answer)) × Allowed f₁ f₂ (answerTo σ c .session) cs
 
 -- the place of the first grid vector at which the outputs differ, or G
 unfoldable pub firstPlace : List ℕ → List ℕ → ℕ
@@ -68,7 +68,7 @@ pub record StopInRange (f₁ f₂ : List ℕ) : Type 0 where
 pub record ShowsFirst (f₁ f₂ : List ℕ) (a : Answer) : Type 0 where
   pub place : stop f₁ f₂ - 1 < gridSize (sizesOf f₁)
   pub first : IsFirst (sizesOf f₁ .m) (widthsOf (sizesOf f₁)) (stepsOf f₁) (stepsOf f₂) (stopVector f₁ f₂)
-  pub vector : a .vector ≡ held (stopVector f₁ f₂)
+  pub vector : a .vector ≡ padded (stopVector f₁ f₂)
   pub output₁ : a .output1 ≡ outputOf f₁ (stopVector f₁ f₂)
   pub output₂ : a .output2 ≡ outputOf f₂ (stopVector f₁ f₂)
 
@@ -81,17 +81,17 @@ pub record MarkOf (a : Answer) (mark : Mark) : Type 0 where
   pub equal : a .kind ≡ Equivalent → mark ≡ Equal
   pub differ : a .kind ≡ Differs → mark ≡ Differ
 
--- of the calls cs, from the session z on, exactly one gives a verdict
-pub record Finished (f₁ f₂ : List ℕ) (z : Session) (cs : List Call) : Type 0 where
+-- of the calls cs, from the session σ on, exactly one gives a verdict
+pub record Finished (f₁ f₂ : List ℕ) (σ : Session) (cs : List Call) : Type 0 where
   pub before : List Call
   pub call : Call
   pub after : List Call
   pub split : cs ≡ before ++ call ∷ after
-  pub none-before : Each (λ a. ¬ IsVerdict a) (answers z before)
-  pub verdict : IsVerdict (answerTo (sessionAfter z before) call .answer)
-  pub settled : Settled f₁ f₂ (answerTo (sessionAfter z before) call .answer)
-  pub refused-after : Each (λ a. IsRefused a × (¬ IsVerdict a)) (answers (answerTo (sessionAfter z before) call .session) after)
-  pub marked : MarkOf (answerTo (sessionAfter z before) call .answer) (sessionAfter z cs .mark)
+  pub none-before : Each (λ a. ¬ IsVerdict a) (answers σ before)
+  pub verdict : IsVerdict (answerTo (sessionAfter σ before) call .answer)
+  pub settled : Settled f₁ f₂ (answerTo (sessionAfter σ before) call .answer)
+  pub refused-after : Each (λ a. IsRefused a × (¬ IsVerdict a)) (answers (answerTo (sessionAfter σ before) call .session) after)
+  pub marked : MarkOf (answerTo (sessionAfter σ before) call .answer) (sessionAfter σ cs .mark)
 
 -- the session that opening gave
 abbrev pub start : List ℕ → List ℕ → Session

@@ -9,7 +9,7 @@
 --   continueRefusal        11, the files, 12, 101, 102, 103
 --   advanced               an accepted call: the session handed back and the answer
 --   continued              what continuing answers: the session handed back and the answer
---   scratchAfter           the scratch slice after a continue call
+--   continuedScratch       the scratch slice after a continue call
 use mathlib.Core.Bool.{Bool, true, false, not, cond, _&&_}
 use mathlib.Core.List.{List}
 use Prim.Native.Nat.{ℕ, _+_, _-_, min}
@@ -22,11 +22,11 @@ use Rattle.fields.specs.File.{sizesOf}
 use Rattle.grid.specs.Grid.{axesOf, gridSize, tooLarge}
 use Rattle.places.specs.Places.{vectorAt}
 use Rattle.ranges.specs.Search.{first, every}
-use Rattle.sizes.specs.Sizes.{maxInputs, within, refusedBy, accepted}
+use Rattle.sizes.specs.Sizes.{maxInputs, within, refusedBy, accepted, isRefusal}
 use Rattle.sizes.specs.declared.Refusal.{Refusal}
 use Rattle.sizes.specs.declared.Sizes.{Sizes}
 use Rattle.slices.specs.Slices.{cleared}
-use Rattle.vectors.specs.Vectors.{held}
+use Rattle.vectors.specs.Vectors.{padded}
 use Rattle.sessions.specs.declared.Answer.{Answer}
 use Rattle.sessions.specs.declared.Continued.{Continued}
 use Rattle.sessions.specs.declared.Mark.{Mark}
@@ -48,10 +48,6 @@ pairRefusal s₁ s₂ =
     (cond (not (sameSizes (sizesOf s₁) (sizesOf s₂))) (refusedBy 9)
     (cond (tooLarge (sizesOf s₁)) (refusedBy 10) accepted)))
 
--- the call is refused
-abbrev pub isRefusal : Refusal → Bool
-isRefusal r = not (eqb (r .number) 0)
-
 -- a session of zeros, marked open
 unfoldable pub noSession : Session
 noSession = record { sizes = record { m = 0; d = 0; widths = replicate maxInputs 0 }; position = 0; mark = Open }
@@ -71,32 +67,34 @@ misplaced G p Open = not (ltb p G)
 misplaced G p Equal = not (eqb p G)
 misplaced G p Differ = not (within 1 G p)
 
+-- a verdict has been given
 unfoldable pub isClosed : Mark → Bool
 isClosed Open = false
 isClosed Equal = true
 isClosed Differ = true
 
--- 101. the session's m, d or word lengths are not the files', which are w. 102, on a grid of G vectors. 103. the mark is not open
+-- 101. the session's m, d or word lengths are not the files', which are z. 102, on a grid of G vectors. 103. the mark is not open
 unfoldable pub stateRefusal : Sizes → ℕ → Session → Refusal
-stateRefusal w G z =
-    cond (not (sameSizes (z .sizes) w)) (refusedBy 101)
-    (cond (misplaced G (z .position) (z .mark)) (refusedBy 102)
-    (cond (isClosed (z .mark)) (refusedBy 103) accepted))
+stateRefusal z G σ =
+    cond (not (sameSizes (σ .sizes) z)) (refusedBy 101)
+    (cond (misplaced G (σ .position) (σ .mark)) (refusedBy 102)
+    (cond (isClosed (σ .mark)) (refusedBy 103) accepted))
 
 unfoldable pub filesRefusal : List ℕ → List ℕ → ℕ → Refusal
 filesRefusal s₁ s₂ B = cond (eqb B 0) (refusedBy 11) (pairRefusal s₁ s₂)
 
 abbrev pub roomRefusal : List ℕ → List ℕ → Session → ℕ → Refusal
-roomRefusal s₁ s₂ z len =
+roomRefusal s₁ s₂ σ len =
     cond (shortScratch (largerCount s₁ s₂) len) (refusedBy 12)
-    (stateRefusal (sizesOf s₁) (gridSize (sizesOf s₁)) z)
+    (stateRefusal (sizesOf s₁) (gridSize (sizesOf s₁)) σ)
 
 unfoldable pub continueRefusal : List ℕ → List ℕ → Session → ℕ → ℕ → Refusal
-continueRefusal s₁ s₂ z B len =
+continueRefusal s₁ s₂ σ B len =
     cond (eqb B 0) (refusedBy 11)
     (cond (isRefusal (pairRefusal s₁ s₂)) (pairRefusal s₁ s₂)
-    (roomRefusal s₁ s₂ z len))
+    (roomRefusal s₁ s₂ σ len))
 
+-- the answer that carries the refusal r
 unfoldable pub refusedAnswer : Refusal → Answer
 refusedAnswer r =
     record { refusal = r; kind = Refused; run = 0; vector = replicate maxInputs 0; output1 = 0; output2 = 0 }
@@ -109,37 +107,37 @@ plainAnswer o n =
 -- the answer that shows the vector x with both outputs, after n vectors
 unfoldable pub differsAnswer : List ℕ → List ℕ → List ℕ → ℕ → Answer
 differsAnswer s₁ s₂ x n =
-    record { refusal = accepted; kind = Differs; run = n; vector = held x; output1 = outputOf s₁ x; output2 = outputOf s₂ x }
+    record { refusal = accepted; kind = Differs; run = n; vector = padded x; output1 = outputOf s₁ x; output2 = outputOf s₂ x }
 
--- the session z at another position and under another mark
+-- the session σ at another position and under another mark
 abbrev pub movedTo : Session → ℕ → Mark → Session
-movedTo z p mark = record { sizes = z .sizes; position = p; mark = mark }
+movedTo σ p mark = record { sizes = σ .sizes; position = p; mark = mark }
 
 -- An accepted call from the session's position with budget B on a grid of G vectors, of which q is the first among the next B at which the
 -- outputs differ, or the end of these where there is none
 unfoldable pub progress : List ℕ → List ℕ → Session → ℕ → ℕ → ℕ → Continued
-progress s₁ s₂ z B G q =
-    cond (ltb q (z .position + min B (G - z .position)))
+progress s₁ s₂ σ B G q =
+    cond (ltb q (σ .position + min B (G - σ .position)))
     (record {
-      session = movedTo z (q + 1) Differ;
-      answer = differsAnswer s₁ s₂ (vectorAt (axesOf (sizesOf s₁)) q) (q + 1 - z .position);
+      session = movedTo σ (q + 1) Differ;
+      answer = differsAnswer s₁ s₂ (vectorAt (axesOf (sizesOf s₁)) q) (q + 1 - σ .position);
     })
-    (cond (leb G (z .position + B))
-    (record { session = movedTo z G Equal; answer = plainAnswer Equivalent (G - z .position) })
-    (record { session = movedTo z (z .position + B) Open; answer = plainAnswer Spent B }))
+    (cond (leb G (σ .position + B))
+    (record { session = movedTo σ G Equal; answer = plainAnswer Equivalent (G - σ .position) })
+    (record { session = movedTo σ (σ .position + B) Open; answer = plainAnswer Spent B }))
 
 unfoldable pub advanced : List ℕ → List ℕ → Session → ℕ → Continued
-advanced s₁ s₂ z B =
-    progress s₁ s₂ z B (gridSize (sizesOf s₁))
-    (first (outputsDiffer s₁ s₂) (z .position) (min B (gridSize (sizesOf s₁) - z .position)))
+advanced s₁ s₂ σ B =
+    progress s₁ s₂ σ B (gridSize (sizesOf s₁))
+    (first (outputsDiffer s₁ s₂) (σ .position) (min B (gridSize (sizesOf s₁) - σ .position)))
 
 unfoldable pub continued : List ℕ → List ℕ → Session → ℕ → ℕ → Continued
-continued s₁ s₂ z B len =
-    cond (isRefusal (continueRefusal s₁ s₂ z B len))
-    (record { session = z; answer = refusedAnswer (continueRefusal s₁ s₂ z B len) })
-    (advanced s₁ s₂ z B)
+continued s₁ s₂ σ B len =
+    cond (isRefusal (continueRefusal s₁ s₂ σ B len))
+    (record { session = σ; answer = refusedAnswer (continueRefusal s₁ s₂ σ B len) })
+    (advanced s₁ s₂ σ B)
 
-unfoldable pub scratchAfter : List ℕ → List ℕ → Session → ℕ → List ℕ → List ℕ
-scratchAfter s₁ s₂ z B scratch =
-    cond (isRefusal (continueRefusal s₁ s₂ z B (length scratch))) scratch
+unfoldable pub continuedScratch : List ℕ → List ℕ → Session → ℕ → List ℕ → List ℕ
+continuedScratch s₁ s₂ σ B scratch =
+    cond (isRefusal (continueRefusal s₁ s₂ σ B (length scratch))) scratch
     (cleared (largerCount s₁ s₂) scratch)

@@ -1,4 +1,5 @@
-// Sessions: what they hold and what calls on them answer. The meaning of the calls: definitions in specs/, laws in proofs/. No functions.
+// Sessions: what they hold and what calls on them answer. The meaning of the calls: definitions in specs/, laws in
+// proofs/. No functions.
 use sizes::INPUTS;
 use sizes::Refusal;
 use sizes::Sizes;

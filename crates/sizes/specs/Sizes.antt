@@ -4,6 +4,8 @@
 --   badWidths    5. a word-length byte breaks its rule: 1 to 64 for the first d, and 0 for the others
 --   refusedBy k  the refusal under the number k that shows no file and no step
 --   accepted     acceptance: number 0
+--   accepts r    the call that answers r is accepted
+--   isRefusal r  and that it is refused
 --   maxInputs    the largest count of inputs, which is also the count of word-length bytes
 --   Sound z      m is 1 to 64, and d is at most maxInputs: what a grid asks
 use mathlib.Core.Bool.{Bool, not, cond, _&&_}
@@ -27,6 +29,7 @@ badOutput z = not (within 1 64 (z .m))
 unfoldable pub badInputs : Sizes → Bool
 badInputs z = not (within 1 maxInputs (z .d))
 
+-- word length i keeps its rule
 unfoldable pub widthRule : Sizes → ℕ → Bool
 widthRule z i = cond (ltb i (z .d)) (within 1 64 (getD (z .widths) i 0)) (eqb (getD (z .widths) i 0) 0)
 
@@ -41,3 +44,9 @@ refusedBy k = record { number = k; file = 0; step = 0 }
 
 abbrev pub accepted : Refusal
 accepted = refusedBy 0
+
+abbrev pub accepts : Refusal → Bool
+accepts r = eqb (r .number) 0
+
+abbrev pub isRefusal : Refusal → Bool
+isRefusal r = not (accepts r)

@@ -1,5 +1,5 @@
-// The calls on difference tables, in words. Sizes are words: m, d and the word lengths. Where they have another length, or a word does not fit
-// a byte, the call returns 0, with nothing touched.
+// The calls on difference tables, in words. Sizes are words: m, d and the word lengths. Where they have another
+// length, or a word does not fit a byte, the call returns 0, with nothing touched.
 use file_tables::make_table;
 use refusal_words::REFUSAL_LENGTH;
 use refusal_words::put_refusal;
@@ -8,8 +8,8 @@ use size_words::sizes_from;
 use tables::transform_cells;
 ghost use Rattle.table_calls.specs.TableCalls.{TableCall, TransformCall};
 
-// The table of a file: out gets the refusal. Where the call is accepted, the first G table entries become the table, and the first N scratch
-// entries are zero afterwards; nothing else is touched.
+// The table of a file: out gets the refusal. Where the call is accepted, the first G table entries become the table,
+// and the first N scratch entries are zero afterwards; nothing else is touched.
 pub fn table_call(file: &[u8], scratch: &mut [u64], table: &mut [u64], out: &mut [u64]) -> u32
     ensures { λ r. ⌜
         TableCall (now (file .entry)) (now (scratch .entry)) (now (table .entry)) (now (out .entry)) r
@@ -24,8 +24,8 @@ pub fn table_call(file: &[u8], scratch: &mut [u64], table: &mut [u64], out: &mut
     1
 }
 
-// The outputs that a table sums to, or the table of given outputs: out gets the refusal. Where the call is accepted, the first G entries of
-// the result become the sums or the differences of the cells; nothing else is touched.
+// The outputs that a table sums to, or the table of given outputs: out gets the refusal. Where the call is accepted,
+// the first G entries of the result become the sums or the differences of the cells; nothing else is touched.
 pub fn transform_call(
     sizes: &[u64],
     cells: &[u64],

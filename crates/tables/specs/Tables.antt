@@ -1,6 +1,5 @@
 -- Differencing given outputs, and summing a table (document 01, 'Output, grid and order'). G is the size of the grid. Both read one slice and
 -- write the first G entries of another.
---   accepts r             the call that answers r is accepted
 --   differencesOf z ys    the difference table of the outputs ys
 --   sumsOf z cells        the outputs that the table sums to
 --   differenced, summedUp the slice that is written, after differencing and after summing
@@ -12,16 +11,13 @@ use mathlib.Core.Bool.{Bool, cond}
 use mathlib.Core.List.{List, _++_}
 use mathlib.Core.Path.{_≡_}
 use Prim.Native.Nat.{ℕ, _^_}
-use lib.Dec.{eqb}
 use lib.ListN.{length, take, drop}
 use Rattle.cells.specs.Cells.{cellsRefusal}
 use Rattle.differences.specs.Table.{tableOf, given, summed}
 use Rattle.grid.specs.Grid.{axesOf, gridSize}
+use Rattle.sizes.specs.Sizes.{accepts}
 use Rattle.sizes.specs.declared.Refusal.{Refusal}
 use Rattle.sizes.specs.declared.Sizes.{Sizes}
-
-abbrev pub accepts : Refusal → Bool
-accepts r = eqb (r .number) 0
 
 unfoldable pub differencesOf : Sizes → List ℕ → List ℕ
 differencesOf z ys = tableOf (2 ^ z .m) (axesOf z) (given (axesOf z) ys)

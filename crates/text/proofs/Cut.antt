@@ -66,14 +66,14 @@ cut-words w (n ∷ ns) h =
     ∙ ap (λ (ps : List (List ℕ)). w ∷ ps) (cut-words (decimal n) ns (free-decimal space n (omega arith)))
 
 -- and more words after them
-pub cut-more :
+pub cut-words-rest :
     (w ns y : List ℕ) → free space w ≡ true → cut space (w ++ spaced ns ++ (space ∷ y)) ≡ (w ∷ map decimal ns) ++ cut space y
 unfolding spaced
-cut-more w [] y h = rw append-nil (cut-at space w y h)
-cut-more w (n ∷ ns) y h =
+cut-words-rest w [] y h = rw append-nil (cut-at space w y h)
+cut-words-rest w (n ∷ ns) y h =
     ap (cut space)
     (append-assoc w (spaced (n ∷ ns)) (space ∷ y)
     ∙ ap (λ (z : List ℕ). w ++ z) (append-assoc (space ∷ decimal n) (spaced ns) (space ∷ y)))
     ∙ cut-at space w (decimal n ++ (spaced ns ++ (space ∷ y))) h
     ∙ ap (λ (z : List ℕ). w ∷ cut space z) (sym (append-assoc (decimal n) (spaced ns) (space ∷ y)))
-    ∙ ap (λ (ps : List (List ℕ)). w ∷ ps) (cut-more (decimal n) ns y (free-decimal space n (omega arith)))
+    ∙ ap (λ (ps : List (List ℕ)). w ∷ ps) (cut-words-rest (decimal n) ns y (free-decimal space n (omega arith)))

@@ -35,19 +35,19 @@ decimal-one n l = rw (lt-ltb n 10 l)
 pub decimal-last : (n : ℕ) → n < 10 → decimal n ≡ digit (n % 10) ∷ []
 decimal-last n l = rw (mod-eq-of-lt l) (decimal-one n l)
 
-pub decimal-more : (n : ℕ) → 10 ≤ n → decimal n ≡ decimal (n / 10) ++ (digit (n % 10) ∷ [])
+pub decimal-step : (n : ℕ) → 10 ≤ n → decimal n ≡ decimal (n / 10) ++ (digit (n % 10) ∷ [])
 unfolding decimal digitsOf
-decimal-more n l =
+decimal-step n l =
     rw (le-ltb n 10 l)
     (ap (λ (ds : List ℕ). ds ++ (digit (n % 10) ∷ [])) (enough n (suc (n / 10)) (n / 10) (omega (arith, tens n)) (omega arith)))
 
-pub length-more : (n : ℕ) → 10 ≤ n → length (decimal n) ≡ length (decimal (n / 10)) + 1
-length-more n l = rw (decimal-more n l) (length-append (decimal (n / 10)) (digit (n % 10) ∷ []))
+pub length-decimal : (n : ℕ) → 10 ≤ n → length (decimal n) ≡ length (decimal (n / 10)) + 1
+length-decimal n l = rw (decimal-step n l) (length-append (decimal (n / 10)) (digit (n % 10) ∷ []))
 
 -- one digit more
-read-more : (a : ℕ) (bytes : List ℕ) (b : ℕ) → readFrom a (bytes ++ (b ∷ [])) ≡ 10 * readFrom a bytes + (b - 48)
-read-more a [] b = refl
-read-more a (c ∷ bytes) b = read-more (10 * a + (c - 48)) bytes b
+read-snoc : (a : ℕ) (bytes : List ℕ) (b : ℕ) → readFrom a (bytes ++ (b ∷ [])) ≡ 10 * readFrom a bytes + (b - 48)
+read-snoc a [] b = refl
+read-snoc a (c ∷ bytes) b = read-snoc (10 * a + (c - 48)) bytes b
 
 -- digits after those of a don't make it less
 read-least : (a : ℕ) (bytes : List ℕ) → a ≤ readFrom a bytes
@@ -61,8 +61,8 @@ no-zero q (b ∷ []) h is e = omega (arith, is .value)
 no-zero q (b ∷ c ∷ ds) h is e = omega (arith, is .shortest e)
 
 module _ (ds : List ℕ) (d : ℕ) where
-  snoc-length : length (ds ++ (d ∷ [])) ≡ length ds + 1
-  snoc-length = length-append ds (d ∷ [])
+  length-snoc : length (ds ++ (d ∷ [])) ≡ length ds + 1
+  length-snoc = length-append ds (d ∷ [])
 
   -- an entry of the list with one more
   snoc-entry :
@@ -72,7 +72,7 @@ module _ (ds : List ℕ) (d : ℕ) where
       elim (decLt i (length ds)) [
         | yes l ↦ rw (List·getD-append ds (d ∷ []) 0 i l) (all i l)
         | no l ↦
-            let e : i ≡ length ds = omega (arith, snoc-length) in
+            let e : i ≡ length ds = omega (arith, length-snoc) in
             rw (e, getD-append-seam ds d [] 0) last
       ]
 
@@ -86,30 +86,30 @@ is-one n l =
       shortest = λ _. refl;
     }
 
-is-more : (q r : ℕ) (ds : List ℕ) → 1 ≤ q → r < 10 → IsDecimal q ds → IsDecimal (q * 10 + r) (ds ++ (digit r ∷ []))
-is-more q r ds h l is =
+is-snoc : (q r : ℕ) (ds : List ℕ) → 1 ≤ q → r < 10 → IsDecimal q ds → IsDecimal (q * 10 + r) (ds ++ (digit r ∷ []))
+is-snoc q r ds h l is =
     record {
-      some = omega (arith, snoc-length ds (digit r));
+      some = omega (arith, length-snoc ds (digit r));
       low = snoc-entry ds (digit r) (λ b. 48 ≤ b) (is .low) (omega arith);
       high = snoc-entry ds (digit r) (λ b. b ≤ 57) (is .high) (omega arith);
-      value = omega (arith, read-more 0 ds (digit r), is .value);
+      value = omega (arith, read-snoc 0 ds (digit r), is .value);
       shortest = λ e. absurd (no-zero q ds h is (sym (List·getD-append ds (digit r ∷ []) 0 0 (omega (arith, is .some))) ∙ e));
     }
 
 -- by the count k of numbers that are left below
-decimals-below : (k n : ℕ) → n < k → IsDecimal n (decimal n)
-decimals-below zero n h = absurd (omega arith)
-decimals-below (suc k) n h =
+decimals-to : (k n : ℕ) → n < k → IsDecimal n (decimal n)
+decimals-to zero n h = absurd (omega arith)
+decimals-to (suc k) n h =
     elim (decLt n 10) [
       | yes l ↦ rw (decimal-one n l) (is-one n l)
       | no l ↦
           let t = tens n in
-          let is = is-more (n / 10) (n % 10) (decimal (n / 10)) (omega (arith, t)) (t .1) (decimals-below k (n / 10) (omega (arith, t))) in
-          rw (decimal-more n (omega arith)) (rw (t .0) at is)
+          let is = is-snoc (n / 10) (n % 10) (decimal (n / 10)) (omega (arith, t)) (t .1) (decimals-to k (n / 10) (omega (arith, t))) in
+          rw (decimal-step n (omega arith)) (rw (t .0) at is)
     ]
 
 pub decimals : Decimals
-decimals n = decimals-below (suc n) n (omega arith)
+decimals n = decimals-to (suc n) n (omega arith)
 
 -- digits that don't begin with 0 give a number from 1 on
 first-counts : (ds : List ℕ) → 1 ≤ length ds → 48 < getD ds 0 0 → 1 ≤ numeral ds
@@ -122,17 +122,17 @@ module _ (n : ℕ) (ds : List ℕ) (d : ℕ) (some : 1 ≤ length ds) (is : IsDe
   front-entry P i h p = rw (List·getD-append ds (d ∷ []) 0 i h) at p
 
   front-nonzero : ¬ (getD ds 0 0 ≡ 48)
-  front-nonzero e = omega (arith, is .shortest (List·getD-append ds (d ∷ []) 0 0 (omega arith) ∙ e), snoc-length ds d)
+  front-nonzero e = omega (arith, is .shortest (List·getD-append ds (d ∷ []) 0 0 (omega arith) ∙ e), length-snoc ds d)
 
-  front-low : (i : ℕ) → i < length ds → 48 ≤ getD ds i 0
-  front-low i h = front-entry (λ b. 48 ≤ b) i h (is .low i (omega (arith, snoc-length ds d)))
+  front-least : (i : ℕ) → i < length ds → 48 ≤ getD ds i 0
+  front-least i h = front-entry (λ b. 48 ≤ b) i h (is .low i (omega (arith, length-snoc ds d)))
 
   is-front : IsDecimal (numeral ds) ds
   is-front =
       record {
         some = some;
-        low = front-low;
-        high = λ i h. front-entry (λ b. b ≤ 57) i h (is .high i (omega (arith, snoc-length ds d)));
+        low = front-least;
+        high = λ i h. front-entry (λ b. b ≤ 57) i h (is .high i (omega (arith, length-snoc ds d)));
         value = refl;
         shortest = λ e. absurd (front-nonzero e);
       }
@@ -140,11 +140,11 @@ module _ (n : ℕ) (ds : List ℕ) (d : ℕ) (some : 1 ≤ length ds) (is : IsDe
   front-value : 1 ≤ numeral ds
   front-value =
       first-counts ds some
-      (elim (decLt 48 (getD ds 0 0)) [ yes l ↦ l | no l ↦ absurd (front-nonzero (omega (arith, front-low 0 (omega arith)))) ])
+      (elim (decLt 48 (getD ds 0 0)) [ yes l ↦ l | no l ↦ absurd (front-nonzero (omega (arith, front-least 0 (omega arith)))) ])
 
   last-digit : (48 ≤ d) × (d ≤ 57)
   last-digit =
-      let at : length ds < length (ds ++ (d ∷ [])) = omega (arith, snoc-length ds d) in
+      let at : length ds < length (ds ++ (d ∷ [])) = omega (arith, length-snoc ds d) in
       (rw (getD-append-seam ds d [] 0) at (is .low (length ds) at), rw (getD-append-seam ds d [] 0) at (is .high (length ds) at))
 
   -- n's tenth and its last digit
@@ -152,35 +152,35 @@ module _ (n : ℕ) (ds : List ℕ) (d : ℕ) (some : 1 ≤ length ds) (is : IsDe
   front-tens =
       let t = tens n in
       let v = is .value in
-      (omega (arith, t, last-digit, read-more 0 ds d), omega (arith, t, last-digit, read-more 0 ds d))
+      (omega (arith, t, last-digit, read-snoc 0 ds d), omega (arith, t, last-digit, read-snoc 0 ds d))
 
-  one-more : ds ≡ decimal (numeral ds) → ds ++ (d ∷ []) ≡ decimal n
-  one-more e =
+  one-snoc : ds ≡ decimal (numeral ds) → ds ++ (d ∷ []) ≡ decimal n
+  one-snoc e =
       let q = front-tens .0 in
       let r : digit (n % 10) ≡ d = omega (arith, front-tens) in
-      rw (decimal-more n (omega (arith, tens n, front-value)), q, r, ← e)
+      rw (decimal-step n (omega (arith, tens n, front-value)), q, r, ← e)
 
 -- the last byte of a list, and those before it
 last-split : (b : ℕ) (bytes : List ℕ) → take (length bytes) (b ∷ bytes) ++ (getD (b ∷ bytes) (length bytes) 0 ∷ []) ≡ b ∷ bytes
 last-split b bytes = sym (take-suc (b ∷ bytes) (length bytes) 0 (omega arith)) ∙ take-length (b ∷ bytes)
 
-one-below : (k n : ℕ) (bytes : List ℕ) → length bytes < k → IsDecimal n bytes → bytes ≡ decimal n
-one-below zero n bytes h is = absurd (omega arith)
-one-below (suc k) n [] h is = absurd (omega (arith, is .some))
-one-below (suc k) n (b ∷ []) h is =
+one-to : (k n : ℕ) (bytes : List ℕ) → length bytes < k → IsDecimal n bytes → bytes ≡ decimal n
+one-to zero n bytes h is = absurd (omega arith)
+one-to (suc k) n [] h is = absurd (omega (arith, is .some))
+one-to (suc k) n (b ∷ []) h is =
     let l = is .low 0 (omega arith) in
     let g = is .high 0 (omega arith) in
     let v = is .value in
     let e : b ≡ digit n = omega arith in
     rw (decimal-one n (omega arith), e)
-one-below (suc k) n (b ∷ c ∷ bytes) h is =
+one-to (suc k) n (b ∷ c ∷ bytes) h is =
     let ds = take (length (c ∷ bytes)) (b ∷ c ∷ bytes) in
     let d = getD (b ∷ c ∷ bytes) (length (c ∷ bytes)) 0 in
     let e = last-split b (c ∷ bytes) in
     let len = ap length e in
     let is′ = rw (← e) at is in
-    let rest = one-below k (numeral ds) ds (omega (arith, len, snoc-length ds d)) (is-front n ds d (omega arith) is′) in
-    sym e ∙ one-more n ds d (omega arith) is′ rest
+    let rest = one-to k (numeral ds) ds (omega (arith, len, length-snoc ds d)) (is-front n ds d (omega arith) is′) in
+    sym e ∙ one-snoc n ds d (omega arith) is′ rest
 
 pub oneDecimal : OneDecimal
-oneDecimal n bytes is = one-below (suc (length bytes)) n bytes (omega arith) is
+oneDecimal n bytes is = one-to (suc (length bytes)) n bytes (omega arith) is

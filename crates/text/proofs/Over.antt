@@ -7,11 +7,11 @@ use native.Mathlib.Numerals.{add-one}
 use native.Mathlib.Omega.{arith}
 use lib.ListN.{length, getD, take, drop, set, length-append, length-drop, take-append-drop}
 use lib.Seq.{length-take-le, take-all, take-at, drop-at, drop-drop, take-suc, set-split, append-snoc}
-use Rattle.text.specs.Writing.{over, Room, Put, TextWritten}
+use Rattle.text.specs.Writing.{over, RoomFor, Put, TextWritten}
 
-over-length : (t : List ℕ) (at : ℕ) (x : List ℕ) → Room x t at → length (over t at x) ≡ length t
+length-over : (t : List ℕ) (at : ℕ) (x : List ℕ) → RoomFor x t at → length (over t at x) ≡ length t
 unfolding over
-over-length t at x h = simp (length-append, length-take-le at t (omega arith), length-drop) (omega arith)
+length-over t at x h = simp (length-append, length-take-le at t (omega arith), length-drop) (omega arith)
 
 over-over :
     (t : List ℕ) (at : ℕ) (x y : List ℕ) → at ≤ length t → over (over t at x) (at + length x) y ≡ over t at (x ++ y)
@@ -28,19 +28,19 @@ over-over t at x y h =
     rw (low, high) (simp (append-assoc, length-append, add-assoc))
 
 -- room for two lists of bytes is room for the first, and then for the second
-pub room-first : (x y : List ℕ) {t : List ℕ} {at : ℕ} → Room (x ++ y) t at → Room x t at
+pub room-first : (x y : List ℕ) {t : List ℕ} {at : ℕ} → RoomFor (x ++ y) t at → RoomFor x t at
 room-first x y h = record { fits = omega (arith, length-append x y, h .fits) }
 
-pub room-second : {x y t t₁ : List ℕ} {at r : ℕ} → Room (x ++ y) t at → Put x t t₁ at r → Room y t₁ r
+pub room-second : {x y t t₁ : List ℕ} {at r : ℕ} → RoomFor (x ++ y) t at → Put x t t₁ at r → RoomFor y t₁ r
 room-second {x} {y} {t} {t₁} {at} h p =
-    record { fits = omega (arith, length-append x y, h .fits, p .next, ap length (p .text), over-length t at x (room-first x y h)) }
+    record { fits = omega (arith, length-append x y, h .fits, p .next, ap length (p .text), length-over t at x (room-first x y h)) }
 
-pub put-none : (t : List ℕ) (at : ℕ) → Put [] t t at at
+pub put-start : (t : List ℕ) (at : ℕ) → Put [] t t at at
 unfolding over
-put-none t at = record { next = omega arith; text = rw (add-zero, append-nil) (sym (take-append-drop at t)) }
+put-start t at = record { next = omega arith; text = rw (add-zero, append-nil) (sym (take-append-drop at t)) }
 
 pub put-then :
-    {x y t t₁ t₂ : List ℕ} {at r₁ r₂ : ℕ} → Room (x ++ y) t at → Put x t t₁ at r₁ → Put y t₁ t₂ r₁ r₂ → Put (x ++ y) t t₂ at r₂
+    {x y t t₁ t₂ : List ℕ} {at r₁ r₂ : ℕ} → RoomFor (x ++ y) t at → Put x t t₁ at r₁ → Put y t₁ t₂ r₁ r₂ → Put (x ++ y) t t₂ at r₂
 put-then {x} {y} {t} {t₁} {t₂} {at} {r₁} {r₂} h p q =
     record {
       next = simp length-append (omega (arith, p .next, q .next));
@@ -52,18 +52,18 @@ unfolding over
 put-one t at b h = record { next = refl; text = rw (add-one at, append-snoc) (set-split t at b h) }
 
 -- the first i bytes, and one more
-pub put-more :
-    (bytes t t₁ : List ℕ) (at i : ℕ) → Room bytes t at → i < length bytes → Put (take i bytes) t t₁ at (at + i)
+pub put-step :
+    (bytes t t₁ : List ℕ) (at i : ℕ) → RoomFor bytes t at → i < length bytes → Put (take i bytes) t t₁ at (at + i)
     → Put (take (i + 1) bytes) t (set t₁ (at + i) (getD bytes i 0)) at (at + (i + 1))
-put-more bytes t t₁ at i h l p =
+put-step bytes t t₁ at i h l p =
     let more : take (i + 1) bytes ≡ take i bytes ++ (getD bytes i 0 ∷ []) = rw (add-one i) (take-suc bytes i 0 l) in
-    let room : Room (take i bytes ++ (getD bytes i 0 ∷ [])) t at =
+    let room : RoomFor (take i bytes ++ (getD bytes i 0 ∷ [])) t at =
     record { fits = omega (arith, h .fits, ap length more, length-take-le (i + 1) bytes (omega arith)) } in
     rw (more, ← add-assoc) (put-then room p (put-one t₁ (at + i) (getD bytes i 0) (omega (arith, room-second room p .fits))))
 
 -- all of them
-pub put-all : (bytes t t₁ : List ℕ) (at i r : ℕ) → length bytes ≤ i → Put (take i bytes) t t₁ at r → Put bytes t t₁ at r
-put-all bytes t t₁ at i r h p = rw (take-all i bytes h) at p
+pub put-end : (bytes t t₁ : List ℕ) (at i r : ℕ) → length bytes ≤ i → Put (take i bytes) t t₁ at r → Put bytes t t₁ at r
+put-end bytes t t₁ at i r h p = rw (take-all i bytes h) at p
 
 -- what is put at place 0 is at the front
 pub at-front : {t before after : List ℕ} {r : ℕ} → Put t before after 0 r → TextWritten t before after r

@@ -8,7 +8,7 @@ use lib.ListN.{length, getD, take, drop}
 use lib.Seq.{take-suc, split-at}
 use Rattle.text.specs.Decimal.{decimal}
 use Rattle.text.specs.Text.{space, line, spaced}
-use Rattle.text.specs.Writing.{Room}
+use Rattle.text.specs.Writing.{RoomFor}
 use Rattle.text.proofs.Over.{room-first}
 
 pub spaced-one : (n : ℕ) → spaced (n ∷ []) ≡ space ∷ decimal n
@@ -21,13 +21,13 @@ spaced-append [] ms = refl
 spaced-append (n ∷ ns) ms = rw (spaced-append ns ms) (sym (append-assoc (space ∷ decimal n) (spaced ns) (spaced ms)))
 
 -- the first i numbers, and one more
-pub spaced-more : (ns : List ℕ) (i : ℕ) → i < length ns → spaced (take (i + 1) ns) ≡ spaced (take i ns) ++ spaced (getD ns i 0 ∷ [])
-spaced-more ns i h = rw (add-one i, take-suc ns i 0) (spaced-append (take i ns) (getD ns i 0 ∷ []))
+pub spaced-step : (ns : List ℕ) (i : ℕ) → i < length ns → spaced (take (i + 1) ns) ≡ spaced (take i ns) ++ spaced (getD ns i 0 ∷ [])
+spaced-step ns i h = rw (add-one i, take-suc ns i 0) (spaced-append (take i ns) (getD ns i 0 ∷ []))
 
 -- room for all of them is room for those
 pub spaced-room :
-    (ns : List ℕ) (i : ℕ) → i < length ns → {t : List ℕ} {at : ℕ} → Room (spaced ns) t at →
-    Room (spaced (take i ns) ++ spaced (getD ns i 0 ∷ [])) t at
+    (ns : List ℕ) (i : ℕ) → i < length ns → {t : List ℕ} {at : ℕ} → RoomFor (spaced ns) t at →
+    RoomFor (spaced (take i ns) ++ spaced (getD ns i 0 ∷ [])) t at
 spaced-room ns i h {t} {at} room =
     let n = getD ns i 0 ∷ [] in
     let split =
@@ -35,7 +35,7 @@ spaced-room ns i h {t} {at} room =
     ∙ spaced-append (take i ns) (getD ns i 0 ∷ drop (suc i) ns)
     ∙ ap (λ (bytes : List ℕ). spaced (take i ns) ++ bytes) (spaced-append n (drop (suc i) ns))
     ∙ sym (append-assoc (spaced (take i ns)) (spaced n) (spaced (drop (suc i) ns))) in
-    room-first (spaced (take i ns) ++ spaced n) (spaced (drop (suc i) ns)) (subst (λ (bytes : List ℕ). Room bytes t at) split room)
+    room-first (spaced (take i ns) ++ spaced n) (spaced (drop (suc i) ns)) (subst (λ (bytes : List ℕ). RoomFor bytes t at) split room)
 
 -- a line of two halves: what comes up to the sign v, and the line of what comes after it
 pub line-halves : (w x v y : List ℕ) → line (w ++ x ++ (v ++ y)) ≡ w ++ x ++ v ++ line y

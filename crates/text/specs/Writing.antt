@@ -1,6 +1,6 @@
 -- Writing bytes into a slice that is lent for a text.
 --   over before at bytes           the slice with the bytes written from the place at on
---   Room bytes text at             there is room for the bytes from there on
+--   RoomFor bytes text at          there is room for the bytes from there on
 --   Put bytes before after at r    the bytes were written from the place at on, and r is the place after them
 --   TextWritten t before after r   the text t was written at the front, and r is the count of its bytes
 use mathlib.Core.Path.{_≡_}
@@ -11,7 +11,7 @@ use lib.ListN.{length, take, drop}
 unfoldable pub over : List ℕ → ℕ → List ℕ → List ℕ
 over before at bytes = take at before ++ bytes ++ drop (at + length bytes) before
 
-pub record Room (bytes text : List ℕ) (at : ℕ) : Type 0 where
+pub record RoomFor (bytes text : List ℕ) (at : ℕ) : Type 0 where
   pub fits : at + length bytes ≤ length text
 
 pub record Put (bytes before after : List ℕ) (at r : ℕ) : Type 0 where

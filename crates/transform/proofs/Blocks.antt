@@ -12,11 +12,12 @@ use lib.Seq.{getD-drop}
 use Rattle.places.specs.Places.{size, vectorAt, placeOf}
 use Rattle.differences.specs.Neighbours.{mixed}
 use Rattle.differences.specs.Table.{listed, given}
-use Rattle.differences.proofs.Listed.{length-values, getD-values, values-unique}
+use Rattle.differences.proofs.Listed.{length-tabulate, getD-tabulate, tabulate-unique}
 use Rattle.words.specs.Words.{word}
+use Rattle.words.proofs.Congruence.{word-pos}
 use Rattle.rounds.specs.Passes.{column, whole, passed}
 use Rattle.rounds.proofs.Lines.{lines-unique}
-use Rattle.rounds.proofs.Rounds.{word-small, word-twice}
+use Rattle.rounds.proofs.Rounds.{word-twice}
 use Rattle.rounds.proofs.Blocks.{whole-word}
 use Rattle.transform.specs.Transform.{blockwise}
 
@@ -27,23 +28,23 @@ blockwise-at :
     ≡ word (mixed s (vectorAt vs p) (given vs (drop (b * size vs) l)))
 unfolding blockwise
 blockwise-at s vs l b p h i =
-    getD-values _ 0 (length l) 0 (b * size vs + p) i
+    getD-tabulate _ 0 (length l) 0 (b * size vs + p) i
     ∙ rw (zero-add (b * size vs + p), digits-div b h, digits-mod b h)
 
 length-blockwise : (s : ℤ) (vs l : List ℕ) → length (blockwise s vs l) ≡ length l
 unfolding blockwise
-length-blockwise s vs l = length-values _ 0 (length l)
+length-blockwise s vs l = length-tabulate _ 0 (length l)
 
-pub blockwise-none : (s : ℤ) (l : List ℕ) → ((q : ℕ) → getD l q 0 < 2 ^ 64) → blockwise s [] l ≡ l
+pub blockwise-start : (s : ℤ) (l : List ℕ) → ((q : ℕ) → getD l q 0 < 2 ^ 64) → blockwise s [] l ≡ l
 unfolding blockwise mixed given placeOf size vectorAt
-blockwise-none s l h =
+blockwise-start s l h =
     sym
-    (values-unique _ (length l) 0 l refl
+    (tabulate-unique _ (length l) 0 l refl
     (λ i _.
     sym
     (ap (λ (n : ℕ). word (pos n))
     (getD-drop (i / 1 * 1) l 0 0 ∙ ap (λ (q : ℕ). getD l q 0) (omega arith))
-    ∙ word-small (getD l i 0) (h i))))
+    ∙ word-pos (getD l i 0) (h i))))
 
 pub blockwise-step :
     (s : ℤ) (u : ℕ) (vs l : List ℕ) → 0 < u → 0 < size vs
@@ -64,16 +65,16 @@ blockwise-step s u vs l zu zw =
     (λ (t : ℕ). mixed s (vectorAt vs p) (λ (ys : List ℕ). given (u ∷ vs) (drop (b * (u * size vs)) l) (t ∷ ys)))
     (column u (size vs) (blockwise s vs l) b p)
     (λ t j.
-    ap word (row b p t)
+    ap word (layer b p t)
     ∙ sym
     (ap (λ (n : ℕ). word (pos n)) (blockwise-at s vs l (b * u + t) p hp (omega (arith, mul-le-mul-right (size vs) j)))
     ∙ word-twice (mixed s (vectorAt vs p) (given vs (drop ((b * u + t) * size vs) l))))))))
   where
-    row :
+    layer :
         (b p t : ℕ)
         → mixed s (vectorAt vs p) (λ (ys : List ℕ). given (u ∷ vs) (drop (b * (u * size vs)) l) (t ∷ ys))
         ≡ mixed s (vectorAt vs p) (given vs (drop ((b * u + t) * size vs) l))
-    row b p t =
+    layer b p t =
         ap (mixed s (vectorAt vs p))
         (fun-ext λ ys.
         ap pos
@@ -84,13 +85,13 @@ blockwise-step s u vs l zu zw =
         same : (i : ℕ) → b * (u * size vs) + (t * size vs + i) ≡ (b * u + t) * size vs + i
         same i = omega arith
 
-pub blockwise-all :
+pub blockwise-end :
     (s : ℤ) (us l : List ℕ) → length l ≡ size us
     → blockwise s us l ≡ listed us (λ (x : List ℕ). word (mixed s x (given us l)))
 unfolding blockwise
-blockwise-all s us l e =
-    values-unique (λ (p : ℕ). word (mixed s (vectorAt us p) (given us l))) (size us) 0 (blockwise s us l)
+blockwise-end s us l e =
+    tabulate-unique (λ (p : ℕ). word (mixed s (vectorAt us p) (given us l))) (size us) 0 (blockwise s us l)
     (length-blockwise s us l ∙ e)
     (λ p h.
-    getD-values _ 0 (length l) 0 p (omega arith)
+    getD-tabulate _ 0 (length l) 0 p (omega arith)
     ∙ rw (zero-add p, mod-eq-of-lt h, div-eq-of-lt h, zero-mul (size us)))

@@ -7,7 +7,7 @@ use lib.IntN.{ℤ, pos, negsuc}
 use Rattle.integers.specs.Modulo.{remainder}
 use Rattle.places.specs.Places.{size, vectorAt}
 use Rattle.differences.specs.Neighbours.{mixed}
-use Rattle.differences.specs.Table.{mixedDifference, values, listed, tableOf, given, sumBelow, summed}
+use Rattle.differences.specs.Table.{mixedDifference, tabulate, listed, tableOf, given, sumBelow, summed}
 use Rattle.differences.proofs.Listed.{listed-equal}
 use Rattle.differences.proofs.Tables.{difference-mixed, sum-remainder}
 use Rattle.words.specs.Words.{word}
@@ -15,16 +15,16 @@ use Rattle.words.proofs.Congruence.{word-cut}
 use Rattle.rounds.specs.Passes.{factor}
 use Rattle.transform.specs.Transform.{transformOf}
 
-map-values : (g : ℕ → ℕ) (f : ℕ → ℕ) (j n : ℕ) → map g (values f j n) ≡ values (λ (i : ℕ). g (f i)) j n
-unfolding values
-map-values g f j zero = refl
-map-values g f j (suc n) = ap (λ (l : List ℕ). g (f j) ∷ l) (map-values g f (j + 1) n)
+map-tabulate : (g : ℕ → ℕ) (f : ℕ → ℕ) (j n : ℕ) → map g (tabulate f j n) ≡ tabulate (λ (i : ℕ). g (f i)) j n
+unfolding tabulate
+map-tabulate g f j zero = refl
+map-tabulate g f j (suc n) = ap (λ (l : List ℕ). g (f j) ∷ l) (map-tabulate g f (j + 1) n)
 
 cut-listed :
     (m : ℕ) → m ≤ 64 → (us : List ℕ) (F : List ℕ → ℤ)
     → map (λ (x : ℕ). x % 2 ^ m) (listed us (λ (x : List ℕ). word (F x))) ≡ listed us (λ (x : List ℕ). remainder (F x) (2 ^ m))
 cut-listed m h us F =
-    map-values (λ (x : ℕ). x % 2 ^ m) (λ (p : ℕ). word (F (vectorAt us p))) 0 (size us)
+    map-tabulate (λ (x : ℕ). x % 2 ^ m) (λ (p : ℕ). word (F (vectorAt us p))) 0 (size us)
     ∙ listed-equal us (λ (x : List ℕ). word (F x) % 2 ^ m) (λ (x : List ℕ). remainder (F x) (2 ^ m)) (λ x _. word-cut (F x) m h)
 
 table-listed :

@@ -8,12 +8,12 @@ use lib.IntN.{ℤ}
 use lib.ListN.{length, drop}
 use Rattle.places.specs.Places.{size, vectorAt}
 use Rattle.differences.specs.Neighbours.{mixed}
-use Rattle.differences.specs.Table.{values, tableOf, given, summed}
+use Rattle.differences.specs.Table.{tabulate, tableOf, given, summed}
 use Rattle.words.specs.Words.{word}
 
 unfoldable pub blockwise : ℤ → List ℕ → List ℕ → List ℕ
 blockwise s vs l =
-    values (λ (q : ℕ). word (mixed s (vectorAt vs (q % size vs)) (given vs (drop (q / size vs * size vs) l)))) 0 (length l)
+    tabulate (λ (q : ℕ). word (mixed s (vectorAt vs (q % size vs)) (given vs (drop (q / size vs * size vs) l)))) 0 (length l)
 
 unfoldable pub transformOf : Bool → ℕ → List ℕ → List ℕ → List ℕ
 transformOf sum M us c = cond sum (summed M us c) (tableOf M us (given us c))

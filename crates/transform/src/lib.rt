@@ -40,8 +40,8 @@ fn cut_cells(cells: &mut [u64], m: u64)
     }
 }
 
-// All axes, and the cut to m bits. The flag is written out in both calls, so that each is compiled for its own sign: the machine then joins several
-// cells at a time.
+// All axes, and the cut to m bits. The flag is written out in both calls, so that each is compiled for its own sign:
+// the machine then joins several cells at a time.
 fn transform(cells: &mut [u64], axes: [u64; INPUTS], d: usize, m: u64, sum: bool)
     requires { ⌜ Axes axes d (length (now cells)) × (m ≤ 64) ⌝ }
     ensures { λ r. ⌜ now (cells .exit) ≡ transformOf sum (2 ^ m) (take d axes) (now (cells .entry)) ⌝ }
@@ -55,8 +55,8 @@ fn transform(cells: &mut [u64], axes: [u64; INPUTS], d: usize, m: u64, sum: bool
     cut_cells(cells, m);
 }
 
-// The first `count` cells, one for each vector of the grid with the first d axes, become the outputs that they sum to modulo 2^m, or else their
-// difference table. The others are untouched.
+// The first `count` cells, one for each vector of the grid with the first d axes, become the outputs that they sum to
+// modulo 2^m, or else their difference table. The others are untouched.
 pub fn transform_front(
     cells: &mut [u64],
     axes: [u64; INPUTS],

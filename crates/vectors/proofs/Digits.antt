@@ -8,10 +8,10 @@ use native.Mathlib.Omega.{arith}
 use lib.ListN.{length, getD, take, drop, set, replicate, length-set, length-replicate, replicate-append-replicate, List·getD-append}
 use lib.Seq.{drop-cons, drop-length, set-append-left, take-at}
 use Rattle.places.specs.Places.{Below, size, vectorAt, placeOf}
-use Rattle.places.proofs.LastAxis.{below-length}
+use Rattle.places.proofs.LastAxis.{length-below}
 use Rattle.places.proofs.Places.{oneToOne}
 use Rattle.sizes.specs.Sizes.{maxInputs}
-use Rattle.vectors.specs.Vectors.{held}
+use Rattle.vectors.specs.Vectors.{padded}
 
 -- a value of a vector below the axes is below its axis
 pub below-at : (us x : List ℕ) (i : ℕ) → Below us x → i < length us → getD x i 0 < getD us i 0
@@ -40,9 +40,9 @@ pub size-drop : (us : List ℕ) (i : ℕ) → i < length us → size (drop i us)
 unfolding size
 size-drop us i h = rw (drop-cons us i 0)
 
-pub size-end : (us : List ℕ) (n : ℕ) → length us ≡ n → size (drop n us) ≡ 1
+pub size-dropped : (us : List ℕ) (n : ℕ) → length us ≡ n → size (drop n us) ≡ 1
 unfolding size
-size-end us n l = rw (← l, drop-length us)
+size-dropped us n l = rw (← l, drop-length us)
 
 -- where there is a vector, there is the one of zeros, at place 0
 below-zeros : (us x : List ℕ) → Below us x → Below us (replicate (length us) 0)
@@ -57,7 +57,7 @@ place-zeros (u ∷ us) = omega (arith, place-zeros us)
 
 -- v holds the vector x, which is below the axes us
 pub record Digits (us v x : List ℕ) : Type 0 where
-  pub shape : v ≡ held x
+  pub shape : v ≡ padded x
   pub below : Below us x
 
 pub zeros :
@@ -74,30 +74,30 @@ zeros us x n l h b =
 
 module _ {us v x : List ℕ} (g : Digits us v x) where
   pub digit : (i : ℕ) → i < length us → getD v i 0 ≡ getD x i 0
-  digit i h = ap (λ l. getD l i 0) (g .shape) ∙ List·getD-append x _ 0 i (omega (arith, below-length us x (g .below)))
+  digit i h = ap (λ l. getD l i 0) (g .shape) ∙ List·getD-append x _ 0 i (omega (arith, length-below us x (g .below)))
 
-  pub digit-below : (i : ℕ) → i < length us → getD x i 0 < getD us i 0
-  digit-below i h = below-at us x i (g .below) h
+  pub digit-most : (i : ℕ) → i < length us → getD x i 0 < getD us i 0
+  digit-most i h = below-at us x i (g .below) h
 
   pub written : (i a : ℕ) → i < length us → a < getD us i 0 → Digits us (set v i a) (set x i a)
   written i a h l =
       record {
         shape =
             ap (λ w. set w i a) (g .shape)
-            ∙ set-append-left x _ i a (omega (arith, below-length us x (g .below)))
+            ∙ set-append-left x _ i a (omega (arith, length-below us x (g .below)))
             ∙ rw length-set;
         below = below-set us x i a (g .below) l;
       }
 
-  pub placed : (p : ℕ) → placeOf us x ≡ p → v ≡ held (vectorAt us p)
-  placed p e = g .shape ∙ ap held (sym (oneToOne us .found x (g .below)) ∙ ap (vectorAt us) e)
+  pub placed : (p : ℕ) → placeOf us x ≡ p → v ≡ padded (vectorAt us p)
+  placed p e = g .shape ∙ ap padded (sym (oneToOne us .found x (g .below)) ∙ ap (vectorAt us) e)
 
 -- two places that hold the same are one
-pub same-place : (us : List ℕ) (p q : ℕ) → p < size us → q < size us → held (vectorAt us p) ≡ held (vectorAt us q) → p ≡ q
+pub same-place : (us : List ℕ) (p q : ℕ) → p < size us → q < size us → padded (vectorAt us p) ≡ padded (vectorAt us q) → p ≡ q
 same-place us p q hp hq e = sym (oneToOne us .placed p hp) ∙ ap (placeOf us) same ∙ oneToOne us .placed q hq
   where
-    front : (r : ℕ) → r < size us → take (length us) (held (vectorAt us r)) ≡ vectorAt us r
-    front r h = take-at (vectorAt us r) _ (length us) (below-length us (vectorAt us r) (oneToOne us .below r h))
+    front : (r : ℕ) → r < size us → take (length us) (padded (vectorAt us r)) ≡ vectorAt us r
+    front r h = take-at (vectorAt us r) _ (length us) (length-below us (vectorAt us r) (oneToOne us .below r h))
 
     same : vectorAt us p ≡ vectorAt us q
     same = sym (front p hp) ∙ ap (take (length us)) e ∙ front q hq

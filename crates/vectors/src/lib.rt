@@ -5,13 +5,13 @@ ghost use Prim.Native.Nat.{_≤_, _<_};
 ghost use lib.ListN.{take};
 ghost use Rattle.places.specs.Places.{size, vectorAt};
 ghost use Rattle.sizes.specs.Sizes.{maxInputs};
-ghost use Rattle.vectors.specs.Vectors.{held, Placed, Next};
+ghost use Rattle.vectors.specs.Vectors.{padded, Placed, Next};
 
 // The vector at place p of the grid with the first d of the axes: the digits of p, the last input varying fastest.
 pub fn vector_at(axes: [u64; INPUTS], d: usize, p: u64) -> [u64; INPUTS]
     requires { ⌜ d ≤ maxInputs ⌝ }
     requires { ⌜ p < size (take d axes) ⌝ }
-    ensures { λ r. ⌜ r ≡ held (vectorAt (take d axes) p) ⌝ }
+    ensures { λ r. ⌜ r ≡ padded (vectorAt (take d axes) p) ⌝ }
 {
     let mut v = [0u64; INPUTS];
     let mut rest = p;
@@ -25,8 +25,9 @@ pub fn vector_at(axes: [u64; INPUTS], d: usize, p: u64) -> [u64; INPUTS]
     v
 }
 
-// The vector one place after v, one of the grid's vectors: from the last input backwards, an input at its last value goes to 0, and the
-// first that isn't goes up by 1. Where v is the last vector of all, nothing is promised of the answer.
+// The vector one place after v, one of the grid's vectors: from the last input backwards, an input at its last value
+// goes to 0, and the first that isn't goes up by 1. Where v is the last vector of all, nothing is promised of the
+// answer.
 pub fn next_vector(axes: [u64; INPUTS], d: usize, v: [u64; INPUTS]) -> [u64; INPUTS]
     requires { ⌜ d ≤ maxInputs ⌝ }
     requires { ⌜ Placed (take d axes) v ⌝ }

@@ -13,15 +13,15 @@ use Rattle.fields.specs.File.{sizesOf}
 use Rattle.grid.specs.Grid.{axesOf}
 use Rattle.places.specs.Places.{vectorAt}
 use Rattle.plan.specs.Comparison.{outputsDiffer}
-use Rattle.vectors.specs.Vectors.{held}
-use Rattle.vectors.proofs.Held.{held-entry}
+use Rattle.vectors.specs.Vectors.{padded}
+use Rattle.vectors.proofs.Padded.{padded-entry}
 
-pub output-held : (s v : List ℕ) → outputOf s (held v) ≡ outputOf s v
-output-held s v = output-entries s (held v) v (held-entry v)
+pub output-padded : (s v : List ℕ) → outputOf s (padded v) ≡ outputOf s v
+output-padded s v = output-entries s (padded v) v (padded-entry v)
 
-pub test-held :
-    (s₁ s₂ v : List ℕ) (p : ℕ) → sizesOf s₁ ≡ sizesOf s₂ → v ≡ held (vectorAt (axesOf (sizesOf s₁)) p) →
+pub test-padded :
+    (s₁ s₂ v : List ℕ) (p : ℕ) → sizesOf s₁ ≡ sizesOf s₂ → v ≡ padded (vectorAt (axesOf (sizesOf s₁)) p) →
     not (eqb (outputOf s₁ v) (outputOf s₂ v)) ≡ outputsDiffer s₁ s₂ p
-test-held s₁ s₂ v p same e =
+test-padded s₁ s₂ v p same e =
     let x = vectorAt (axesOf (sizesOf s₁)) p in
-    ap₂ (λ a b. not (eqb a b)) (ap (outputOf s₁) e ∙ output-held s₁ x) (ap (outputOf s₂) e ∙ output-held s₂ x) ∙ output-test s₁ s₂ p same
+    ap₂ (λ a b. not (eqb a b)) (ap (outputOf s₁) e ∙ output-padded s₁ x) (ap (outputOf s₂) e ∙ output-padded s₂ x) ∙ output-test s₁ s₂ p same

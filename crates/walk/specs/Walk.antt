@@ -14,8 +14,8 @@ use Rattle.evaluate.specs.Evaluate.{outputOf}
 use Rattle.places.specs.Places.{size}
 use Rattle.plan.specs.Plan.{Planned}
 use Rattle.plan.specs.declared.Plan.{Plan}
+use Rattle.plan.specs.declared.Span.{Span}
 use Rattle.slices.specs.Slices.{KeptPast}
-use Rattle.spans.specs.declared.Span.{Span}
 
 pub record Within (s₁ s₂ : List ℕ) (p : Plan) (v : Span) (scratch : List ℕ) : Type 0 where
   pub planned : Planned s₁ s₂ p

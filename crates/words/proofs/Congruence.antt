@@ -2,22 +2,27 @@
 -- difference and product, and the cut of a word to m bits is the integer modulo 2^m, since 2^m divides 2^64.
 use mathlib.Core.Path.{_≡_, sym, _∙_, ap}
 use Prim.Native.Nat.{ℕ, _+_, _*_, _-_, _%_, _^_, _≤_, _<_}
+use native.Mathlib.Nat.{mod-eq-of-lt}
 use native.Mathlib.Omega.{arith}
-use lib.IntN.{ℤ, _+ℤ_, _-ℤ_, _*ℤ_}
+use lib.IntN.{ℤ, pos, _+ℤ_, _-ℤ_, _*ℤ_}
 use lib.Pow.{pow-pos, pow-add}
 use Rattle.integers.specs.Modulo.{remainder}
-use Rattle.integers.proofs.Remainder.{remainder-lt, remainder-add, remainder-sub, remainder-mul, remainder-coarse}
+use Rattle.integers.proofs.Remainder.{remainder-pos, remainder-most, remainder-add, remainder-sub, remainder-mul, remainder-coarse}
 use Rattle.words.specs.Words.{word}
 
-pub word-lt : (z : ℤ) → word z < 2 ^ 64
-word-lt z = remainder-lt z (2 ^ 64) (pow-pos 64)
+pub word-most : (z : ℤ) → word z < 2 ^ 64
+word-most z = remainder-most z (2 ^ 64) (pow-pos 64)
+
+-- a natural number that fits is its own word
+pub word-pos : (a : ℕ) → a < 2 ^ 64 → word (pos a) ≡ a
+word-pos a h = remainder-pos a (2 ^ 64) ∙ mod-eq-of-lt h
 
 pub word-add : (a b : ℤ) → (word a + word b) % 2 ^ 64 ≡ word (a +ℤ b)
 word-add a b = sym (remainder-add a b (2 ^ 64) (pow-pos 64))
 
 -- as the supplied wrapping subtraction states its result: the word that added to b's wraps back to a's
 pub word-sub : (r : ℕ) (a b : ℤ) → r < 2 ^ 64 → (r + word b) % 2 ^ 64 ≡ word a → r ≡ word (a -ℤ b)
-word-sub r a b h e = omega (arith, remainder-sub a b (2 ^ 64) (pow-pos 64), word-lt a, word-lt b)
+word-sub r a b h e = omega (arith, remainder-sub a b (2 ^ 64) (pow-pos 64), word-most a, word-most b)
 
 pub word-mul : (a b : ℤ) → (word a * word b) % 2 ^ 64 ≡ word (a *ℤ b)
 word-mul a b = sym (remainder-mul a b (2 ^ 64) (pow-pos 64))

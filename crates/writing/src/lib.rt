@@ -1,12 +1,13 @@
-// Writing bytes and decimal numbers into a text slice, from a place on. Each function answers the place after what it wrote.
+// Writing bytes and decimal numbers into a text slice, from a place on. Each function answers the place after what it
+// wrote.
 ghost use mathlib.Core.List.{[], _∷_, _++_};
 ghost use Rattle.text.specs.Decimal.{decimal};
 ghost use Rattle.text.specs.Text.{line, spaced};
-ghost use Rattle.text.specs.Writing.{Room, Put};
+ghost use Rattle.text.specs.Writing.{RoomFor, Put};
 
 // Writes one byte.
 fn put_byte(text: &mut [u8], at: usize, byte: u8) -> usize
-    requires { ⌜ Room (byte ∷ []) (now text) at ⌝ }
+    requires { ⌜ RoomFor (byte ∷ []) (now text) at ⌝ }
     ensures { λ r. ⌜ Put (byte ∷ []) (now (text .entry)) (now (text .exit)) at r ⌝ }
 {
     text[at] = byte;
@@ -15,7 +16,7 @@ fn put_byte(text: &mut [u8], at: usize, byte: u8) -> usize
 
 // Writes the bytes.
 pub fn put_bytes(text: &mut [u8], at: usize, bytes: &[u8]) -> usize
-    requires { ⌜ Room (now bytes) (now text) at ⌝ }
+    requires { ⌜ RoomFor (now bytes) (now text) at ⌝ }
     ensures { λ r. ⌜ Put (now (bytes .entry)) (now (text .entry)) (now (text .exit)) at r ⌝ }
 {
     let mut i = 0;
@@ -28,7 +29,7 @@ pub fn put_bytes(text: &mut [u8], at: usize, bytes: &[u8]) -> usize
 
 // Writes the number in decimal: its tenth first, then the last digit.
 fn put_decimal(text: &mut [u8], at: usize, n: u64) -> usize
-    requires { ⌜ Room (decimal n) (now text) at ⌝ }
+    requires { ⌜ RoomFor (decimal n) (now text) at ⌝ }
     ensures { λ r. ⌜ Put (decimal n) (now (text .entry)) (now (text .exit)) at r ⌝ }
 {
     let digit = 48 + (n % 10) as u8;
@@ -41,7 +42,7 @@ fn put_decimal(text: &mut [u8], at: usize, n: u64) -> usize
 
 // Writes a space and the number.
 fn put_number(text: &mut [u8], at: usize, n: u64) -> usize
-    requires { ⌜ Room (spaced (n ∷ [])) (now text) at ⌝ }
+    requires { ⌜ RoomFor (spaced (n ∷ [])) (now text) at ⌝ }
     ensures { λ r. ⌜ Put (spaced (n ∷ [])) (now (text .entry)) (now (text .exit)) at r ⌝ }
 {
     let next = put_byte(text, at, b' ');
@@ -50,7 +51,7 @@ fn put_number(text: &mut [u8], at: usize, n: u64) -> usize
 
 // Writes the numbers, each after a space.
 fn put_numbers(text: &mut [u8], at: usize, ns: &[u64]) -> usize
-    requires { ⌜ Room (spaced (now ns)) (now text) at ⌝ }
+    requires { ⌜ RoomFor (spaced (now ns)) (now text) at ⌝ }
     ensures { λ r. ⌜ Put (spaced (now (ns .entry))) (now (text .entry)) (now (text .exit)) at r ⌝ }
 {
     let mut next = at;
@@ -64,7 +65,7 @@ fn put_numbers(text: &mut [u8], at: usize, ns: &[u64]) -> usize
 
 // Writes a word, the numbers, each after a space, and what ends them.
 pub fn put_words(text: &mut [u8], at: usize, word: &[u8], ns: &[u64], end: &[u8]) -> usize
-    requires { ⌜ Room (now word ++ spaced (now ns) ++ now end) (now text) at ⌝ }
+    requires { ⌜ RoomFor (now word ++ spaced (now ns) ++ now end) (now text) at ⌝ }
     ensures { λ r.
         ⌜ Put (now (word .entry) ++ spaced (now (ns .entry)) ++ now (end .entry))
         (now (text .entry)) (now (text .exit)) at r ⌝ }
@@ -83,7 +84,7 @@ pub fn put_halves(
     sign: &[u8],
     ms: &[u64],
 ) -> usize
-    requires { ⌜ Room (line (now word ++ spaced (now ns) ++ (now sign ++ spaced (now ms)))) (now text) at ⌝ }
+    requires { ⌜ RoomFor (line (now word ++ spaced (now ns) ++ (now sign ++ spaced (now ms)))) (now text) at ⌝ }
     ensures { λ r.
         ⌜ Put (line (now (word .entry) ++ spaced (now (ns .entry)) ++ (now (sign .entry) ++ spaced (now (ms .entry)))))
         (now (text .entry)) (now (text .exit)) at r ⌝ }

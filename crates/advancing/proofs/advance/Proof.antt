@@ -10,7 +10,7 @@ use Rattle.engine.specs.Engine.{outputsDiffer}
 use Rattle.plan.specs.Comparison.{Found}
 use Rattle.plan.proofs.Numbers as plan
 use Rattle.ranges.specs.Search.{first}
-use Rattle.ranges.proofs.Search.{first-low}
+use Rattle.ranges.proofs.Search.{first-least}
 use Rattle.sessions.proofs.Cases.{handed, advanced-differs, advanced-equivalent, advanced-spent}
 use Rattle.advancing.proofs.advance.Statement.{statement}
 use Rattle.advancing.proofs.advance.Tie as tie
@@ -35,7 +35,7 @@ low c =
     omega (
       arith,
       place c,
-      first-low (outputsDiffer (now (a .file1)) (now (a .file2))) (a .session .position) (c .before .before .smaller .result),
+      first-least (outputsDiffer (now (a .file1)) (now (a .file2))) (a .session .position) (c .before .before .smaller .result),
     )
 
 sub-left : tie.Need-sub-left

@@ -14,8 +14,8 @@ use Rattle.places.specs.Places.{vectorAt}
 use Rattle.plan.proofs.Numbers as plan
 use Rattle.sessions.specs.Session.{differsAnswer}
 use Rattle.sessions.specs.declared.Kind.the-variants.{Differs}
-use Rattle.vectors.specs.Vectors.{held}
-use Rattle.walk.proofs.Outputs.{output-held}
+use Rattle.vectors.specs.Vectors.{padded}
+use Rattle.walk.proofs.Outputs.{output-padded}
 use Rattle.advancing.proofs.differs_answer.Statement.{statement}
 use Rattle.advancing.proofs.differs_answer.Tie as tie
 
@@ -68,11 +68,11 @@ returns c =
     let s₁ = now (a .file1) in
     let s₂ = now (a .file2) in
     let x = vectorAt (axesOf (sizesOf s₁)) (a .place) in
-    let v = c .before .before .before .before .before .before .before .before .before .before .before .vector-at .ensures ∙ ap (λ us. held (vectorAt us (a .place))) (plan.grid (e .pre .0)) in
+    let v = c .before .before .before .before .before .before .before .before .before .before .before .vector-at .ensures ∙ ap (λ us. padded (vectorAt us (a .place))) (plan.grid (e .pre .0)) in
     let first = c .before .before .before .before .before .before .before .before .output-at .ensures in
     let second = c .before .before .before .output-at2 .ensures in
-    let o₁ = first .output ∙ ap (outputOf s₁) v ∙ output-held s₁ x in
-    let o₂ = second .output ∙ ap (outputOf s₂) v ∙ output-held s₂ x in
+    let o₁ = first .output ∙ ap (outputOf s₁) v ∙ output-padded s₁ x in
+    let o₂ = second .output ∙ ap (outputOf s₂) v ∙ output-padded s₂ x in
     record {
       answer = λ i. record { refusal = c .refused-by .ensures i; kind = Differs; run = a .run; vector = v i; output1 = o₁ i; output2 = o₂ i };
       kept =

@@ -8,7 +8,7 @@ use native.Mathlib.Omega.{arith}
 use denote.Ref.{now}
 use lib.ListN.{length, take, length-take, length-drop}
 use Rattle.layouts.specs.AnswerWords.{refusalFrom, answerFits, answerFrom}
-use Rattle.layouts.specs.Lengths.{word, atRun, atVector, atOutput₁, atOutput₂, answerLength}
+use Rattle.layouts.specs.Lengths.{wordAt, atRun, atVector, atOutput₁, atOutput₂, answerLength}
 use Rattle.layouts.proofs.Told.{answer-told}
 use Rattle.layouts.proofs.Written.{part-whole}
 use Rattle.sizes.specs.Sizes.{maxInputs}
@@ -73,10 +73,10 @@ returns c =
     record {
       refusal = refusalFrom w;
       kind = read .kind-from .ensures i;
-      run = word w atRun;
+      run = wordAt w atRun;
       vector = vector i;
-      output1 = word w atOutput₁;
-      output2 = word w atOutput₂;
+      output1 = wordAt w atOutput₁;
+      output2 = wordAt w atOutput₂;
     }
 
 pub answer-from-spec : {M : Type 1} → statement M

@@ -16,7 +16,7 @@ use Rattle.plan.specs.Comparison.{outputsDiffer}
 use Rattle.plan.specs.declared.Plan.{Plan}
 use Rattle.rows.specs.Rows.{maxLanes}
 use Rattle.ranges.specs.Search.{first}
-use Rattle.ranges.proofs.Search.{first-high, first-before, first-end, first-past, first-part}
+use Rattle.ranges.proofs.Search.{first-most, first-before, first-end, first-past, first-part}
 use Rattle.sizes.specs.Sizes.{maxInputs}
 use Rattle.batches.specs.Prepared.{Prepared}
 use Rattle.batches.specs.declared.Shape.{Shape}
@@ -53,7 +53,7 @@ module _
 
     module _ {live : ℕ} (l : ℕ) (b : Batch (v .w) p end live) (e : p + l ≡ first f p live) where
       short : p + l ≤ end
-      short = omega (arith, e, first-high f p live, b .part)
+      short = omega (arith, e, first-most f p live, b .part)
 
       found : l < live → p + l ≡ first f from (end - from)
       found h = e ∙ sym (k .same ∙ first-part f p live end (omega (arith, e)) (b .part))

@@ -2,18 +2,18 @@
 -- the copied row shows the outputs of file 1.
 -- Assumes nothing.
 use mathlib.Core.List.{List}
-use mathlib.Core.Path.{_≡_, refl, _∙_, ap}
+use mathlib.Core.Path.{_∙_, ap}
 use Prim.Native.Nat.{ℕ, _*_, _-_, _%_, _^_, _≤_, _<_}
 use native.Mathlib.Omega.{arith}
 use borrow.Author.Needs.{needs}
 use denote.Ref.{now}
-use lib.ListN.{length, getD}
+use lib.ListN.{length}
 use Rattle.fields.specs.File.{sizesOf}
 use Rattle.lanes.specs.Lanes.{Reads, Shown, LanesOnGrid}
 use Rattle.lanes.proofs.Stepped.{width-most}
 use Rattle.plan.proofs.Numbers as plan
 use Rattle.batches.proofs.OnGrid.{same-grid, lanes-on-grid}
-use Rattle.batches.proofs.Tests.{last₁, last₂, inputs-room, room₁, room₂, shown₁, shown₂, prepared-kept, batch-first}
+use Rattle.batches.proofs.Tests.{last₁, last₂, inputs-room, room₁, room₂, shown₁, shown₂, batch-first}
 use Rattle.batches.proofs.first_in_batch.Statement.{statement}
 use Rattle.batches.proofs.first_in_batch.Tie as tie
 

@@ -13,8 +13,8 @@ use lib.ListN.{length, getD, take}
 use Rattle.places.specs.Places.{vectorAt}
 use Rattle.rows.specs.Rows.{lane}
 use Rattle.sizes.specs.Sizes.{maxInputs}
-use Rattle.vectors.specs.Vectors.{held}
-use Rattle.vectors.proofs.Held.{held-entry}
+use Rattle.vectors.specs.Vectors.{padded}
+use Rattle.vectors.proofs.Padded.{padded-entry}
 use Rattle.batches.proofs.set_lanes.Statement.{statement}
 use Rattle.batches.proofs.set_lanes.Tie as tie
 
@@ -22,14 +22,14 @@ record Columns (w : ℕ) (us : List ℕ) (p live : ℕ) (inputs₀ inputs v : Li
   some : 1 ≤ l
   within : l ≤ live
   long : length inputs ≡ length inputs₀
-  vector : v ≡ held (vectorAt us (p + (l - 1)))
+  vector : v ≡ padded (vectorAt us (p + (l - 1)))
   columns : (i k : ℕ) → i < maxInputs → k < l → lane w inputs i k ≡ getD (vectorAt us (p + k)) i 0
   others : (i k : ℕ) → l ≤ k → k < w → lane w inputs i k ≡ lane w inputs₀ i k
 
 module _ (w : ℕ) (us : List ℕ) (p live : ℕ) (inputs₀ inputs' v : List ℕ) (long : length inputs' ≡ length inputs₀) (room : live ≤ w) where
   -- lane l is set to the vector v at place q = p + l
   more :
-      (inputs : List ℕ) (l q : ℕ) → l < live → v ≡ held (vectorAt us q) → q ≡ p + l → ((i : ℕ) → i < maxInputs → lane w inputs' i l ≡ getD v i 0) →
+      (inputs : List ℕ) (l q : ℕ) → l < live → v ≡ padded (vectorAt us q) → q ≡ p + l → ((i : ℕ) → i < maxInputs → lane w inputs' i l ≡ getD v i 0) →
       ((i k : ℕ) → k < w → ¬ (k ≡ l) → lane w inputs' i k ≡ lane w inputs i k) →
       ((i k : ℕ) → i < maxInputs → k < l → lane w inputs i k ≡ getD (vectorAt us (p + k)) i 0) →
       ((i k : ℕ) → l + 1 ≤ k → k < w → lane w inputs' i k ≡ lane w inputs₀ i k) → Columns w us p live inputs₀ inputs' v (l + 1)
@@ -41,14 +41,14 @@ module _ (w : ℕ) (us : List ℕ) (p live : ℕ) (inputs₀ inputs' v : List �
         long = long;
         vector = rw (back, ← at) e;
         columns = λ i k hi hk. ⊎-elim
-            (λ (same : k ≡ l). rw (same, ← at) (here i hi ∙ ap (λ w. getD w i 0) e ∙ held-entry (vectorAt us q) i))
+            (λ (same : k ≡ l). rw (same, ← at) (here i hi ∙ ap (λ w. getD w i 0) e ∙ padded-entry (vectorAt us q) i))
             (λ (less : k < l). others i k (omega arith) (λ same. omega arith) ∙ before i k hi less)
             (eq-or-lt-of-le (omega arith));
         others = after;
       }
 
   start :
-      (inputs : List ℕ) → 1 ≤ live → v ≡ held (vectorAt us p) → ((i : ℕ) → i < maxInputs → lane w inputs' i 0 ≡ getD v i 0) →
+      (inputs : List ℕ) → 1 ≤ live → v ≡ padded (vectorAt us p) → ((i : ℕ) → i < maxInputs → lane w inputs' i 0 ≡ getD v i 0) →
       ((i k : ℕ) → k < w → ¬ (k ≡ 0) → lane w inputs' i k ≡ lane w inputs i k) →
       ((i k : ℕ) → 1 ≤ k → k < w → lane w inputs' i k ≡ lane w inputs₀ i k) → Columns w us p live inputs₀ inputs' v 1
   start inputs h e here others after = more inputs 0 p h e (omega arith) here others (λ i k hi hk. absurd (omega arith)) after

@@ -12,10 +12,11 @@ use lib.ListN.{length, drop, replicate}
 use Rattle.engine.specs.Engine.{largerCount}
 use Rattle.plan.specs.Plan.{Planned}
 use Rattle.plan.proofs.Numbers as plan
-use Rattle.sessions.specs.Session.{isRefusal, filesRefusal, roomRefusal, continueRefusal, refusedAnswer}
+use Rattle.sessions.specs.Session.{filesRefusal, continueRefusal, refusedAnswer}
 use Rattle.sessions.proofs.Cases as cases
 use Rattle.sessions.proofs.Cases.{handed, Passed, passed, continued-refused, continued-accepted, scratch-refused, scratch-accepted}
 use Rattle.sessions.proofs.Pair.{comparable}
+use Rattle.sizes.specs.Sizes.{isRefusal}
 use Rattle.sizes.specs.declared.Refusal.{Refusal}
 use Rattle.continuing.proofs.continue_session.Statement.{statement}
 use Rattle.continuing.proofs.continue_session.Tie as tie

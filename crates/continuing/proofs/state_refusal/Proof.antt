@@ -16,10 +16,10 @@ use Rattle.continuing.proofs.state_refusal.Tie as tie
 
 -- a session of the files' sizes is judged by its position and its mark
 judged :
-    (w : Sizes) (G : ℕ) (z : Session) (mark : Mark) (m c : Bool) → sameSizes (z .sizes) w ≡ true → z .mark ≡ mark → misplaced G (z .position) mark ≡ m →
-    isClosed mark ≡ c → cond m (refusedBy 102) (cond c (refusedBy 103) (refusedBy 0)) ≡ stateRefusal w G z
+    (z : Sizes) (G : ℕ) (σ : Session) (mark : Mark) (m c : Bool) → sameSizes (σ .sizes) z ≡ true → σ .mark ≡ mark → misplaced G (σ .position) mark ≡ m →
+    isClosed mark ≡ c → cond m (refusedBy 102) (cond c (refusedBy 103) (refusedBy 0)) ≡ stateRefusal z G σ
 unfolding stateRefusal
-judged w G z mark m c same e p q = rw (same, e, p, q)
+judged z G σ mark m c same e p q = rw (same, e, p, q)
 
 same-sizes-requires : tie.Need-same-sizes-requires
 same-sizes-requires c κs = search needs

@@ -4,16 +4,15 @@ use mathlib.Core.Logic.{inl, inr}
 use mathlib.Core.List.{List}
 use mathlib.Core.Path.{_≡_, refl, sym, _∙_, ap}
 use Prim.Native.Nat.{ℕ, _+_, _-_, _≤_, max}
-use native.Mathlib.Nat.{le-max-left, le-max-right, max-le}
+use native.Mathlib.Nat.{le-max-left, le-max-right}
 use native.Mathlib.Omega.{arith}
-use denote.Ref.{now}
 use lib.ListN.{length}
 use Rattle.plan.specs.Plan.{Planned}
 use Rattle.plan.specs.declared.Plan.{Plan}
 use Rattle.plan.proofs.Numbers as plan
 use Rattle.grid.specs.Grid.{gridSize}
 use Rattle.ranges.specs.Search.{first}
-use Rattle.ranges.proofs.Search.{first-none}
+use Rattle.ranges.proofs.Search.{first-empty}
 use Rattle.walk.specs.Walk.{Within}
 use borrow.Author.Needs.{needs}
 use Rattle.engine.proofs.first_difference.Statement.{statement}
@@ -36,7 +35,7 @@ both : (a b n c : ℕ) → n ≡ max a b → n ≤ c → (a ≤ c) × (b ≤ c)
 both a b n c e h = (omega (arith, le-max-left a b), omega (arith, le-max-right a b))
 
 returns : tie.Need-returns
-returns c = record { found = sym (ap (first _ _) (empty _ _ (c .if1 .taken)) ∙ first-none _ _); kept = refl }
+returns c = record { found = sym (ap (first _ _) (empty _ _ (c .if1 .taken)) ∙ first-empty _ _); kept = refl }
 
 add-end : tie.Need-add-end
 add-end c = search needs

@@ -13,7 +13,7 @@ use Rattle.fields.proofs.Steps.{steps-at}
 use Rattle.lists.proofs.Lists.{map-append, set-front}
 use Rattle.datapath.specs.Steps.{stepValue, values}
 use Rattle.datapath.specs.declared.Step.the-variants.{Constant}
-use Rattle.datapath.proofs.Values.{length-values, values-more}
+use Rattle.datapath.proofs.Values.{length-values, values-step}
 use Rattle.words.specs.Words.{word}
 use Rattle.evaluate.specs.Run.{Ready, Running}
 use Rattle.evaluate.proofs.run.Statement.{statement}
@@ -47,7 +47,7 @@ module _ (s : List ℕ) (n : ℕ) (x scratch₀ scratch : List ℕ) (k : ℕ) (r
 
       next : map word (values (stepsOf s) x (k + 1)) ≡ map word (values (stepsOf s) x k) ++ (v ∷ [])
       next =
-          ap (map word) (values-more (stepsOf s) x k)
+          ap (map word) (values-step (stepsOf s) x k)
           ∙ map-append word (values (stepsOf s) x k) (stepValue x (values (stepsOf s) x k) (getD (stepsOf s) k (Constant 0)) ∷ [])
           ∙ ap (λ t. map word (values (stepsOf s) x k) ++ (word (stepValue x (values (stepsOf s) x k) t) ∷ [])) (steps-at s k (omega (arith, r .count)))
           ∙ ap (λ w. map word (values (stepsOf s) x k) ++ (w ∷ [])) (sym e)

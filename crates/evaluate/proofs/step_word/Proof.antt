@@ -7,12 +7,10 @@ use Prim.Native.Nat.{ℕ, _<_}
 use native.Mathlib.Omega.{arith}
 use borrow.Author.Needs.{needs}
 use denote.Ref.{now}
-use lib.ListN.{length}
 use Rattle.fields.specs.File.{sizesOf}
 use Rattle.fields.specs.Steps.{stepAt}
 use Rattle.file.proofs.Accepted.{Is, is}
 use Rattle.datapath.specs.declared.Step.{Step}
-use Rattle.datapath.specs.declared.Step.the-variants.{Input, Add, Subtract, Multiply}
 use Rattle.evaluate.specs.Run.{Running}
 use Rattle.evaluate.proofs.Words.{input-word, constant-word, sum-word, difference-word, product-word}
 use Rattle.evaluate.proofs.step_word.Statement.{statement}

@@ -4,7 +4,7 @@ use Prim.Native.Nat.{ℕ, _+_, _*_}
 use borrow.Author.Needs.{needs}
 use denote.Ref.{now}
 use Rattle.words.specs.Bytes.{little}
-use Rattle.fields.specs.File.{argument}
+use Rattle.fields.specs.File.{headLength, argument}
 use Rattle.fields.proofs.argument.Statement.{statement}
 use Rattle.fields.proofs.argument.Tie as tie
 
@@ -24,7 +24,7 @@ returns : tie.Need-returns
 unfolding argument
 returns c =
     let a = c .before .before .args in
-    (c .le64 .ensures ∙ ap (λ (n : ℕ). little 8 (now (a .file)) (12 + n + 8 * a .k)) (c .before .before .pre .0), search needs)
+    (c .le64 .ensures ∙ ap (λ (n : ℕ). little 8 (now (a .file)) (headLength + n + 8 * a .k)) (c .before .before .pre .0), search needs)
 
 pub argument-spec : {M : Type 1} → statement M
 argument-spec = tie.close (tie.spec add-le64 mul-le64 add-le64-2 le64-requires returns)

@@ -3,7 +3,7 @@ use mathlib.Core.Path.{refl}
 use Prim.Native.Nat.{_+_}
 use native.Mathlib.Omega.{arith}
 use borrow.Author.Needs.{needs}
-use Rattle.fields.specs.File.{operation}
+use Rattle.fields.specs.File.{headLength, operation}
 use Rattle.fields.proofs.operation.Statement.{statement}
 use Rattle.fields.proofs.operation.Tie as tie
 
@@ -15,7 +15,7 @@ shared-slice-read-result c = search needs
 
 returns : tie.Need-returns
 unfolding operation
-returns c = (refl, omega (arith, c .shared-slice-known .given (12 + c .before .args .k)))
+returns c = (refl, omega (arith, c .shared-slice-known .given (headLength + c .before .args .k)))
 
 pub operation-spec : {M : Type 1} → statement M
 operation-spec = tie.close (tie.spec add-result shared-slice-read-result returns)

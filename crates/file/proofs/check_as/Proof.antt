@@ -6,7 +6,7 @@ use borrow.Author.Needs.{needs}
 use denote.Ref.{now}
 use Rattle.file.specs.Check.{headFault}
 use Rattle.file.specs.Headed.{Headed}
-use Rattle.file.proofs.Number.{Head, head-passed, refused-head, refused-step, refused-none}
+use Rattle.file.proofs.Number.{Head, head-passed, refused-head, refused-faulty, refused-sound}
 use Rattle.file.proofs.check_as.Statement.{statement}
 use Rattle.file.proofs.check_as.Tie as tie
 
@@ -44,10 +44,10 @@ step-fault-requires c κs = (headed (c .before .before), c .if2 .taken)
 
 returns-2 : tie.Need-returns-2
 returns-2 c =
-    refused-step _ (sound (c .before .before .before .before .before)) _ (c .before .before .faulty-step .ensures) (c .step-fault .ensures) (omega (arith, c .before .before .before .step-count .ensures, c .before .if2 .taken))
+    refused-faulty _ (sound (c .before .before .before .before .before)) _ (c .before .before .faulty-step .ensures) (c .step-fault .ensures) (omega (arith, c .before .before .before .step-count .ensures, c .before .if2 .taken))
 
 returns-3 : tie.Need-returns-3
-returns-3 c = refused-none _ (sound (c .before .before .before .before)) _ (omega (arith, c .before .faulty-step .ensures, c .before .before .step-count .ensures))
+returns-3 c = refused-sound _ (sound (c .before .before .before .before)) _ (omega (arith, c .before .faulty-step .ensures, c .before .before .step-count .ensures))
 
 pub check-as-spec : {M : Type 1} → statement M
 check-as-spec =

@@ -59,7 +59,7 @@ returns-2 : tie.Need-returns-2
 unfolding operationsOf
 returns-2 c =
     let s = now (c .before .before .before .before .before .args .file) in
-    let count : 12 + c .before .step-count .result - 12 ≡ c .before .step-count .result = omega arith in
+    let count : headLength + c .before .step-count .result - headLength ≡ c .before .step-count .result = omega arith in
     record {
       contents =
           ap (λ (n : ℕ). take n (drop headLength s)) (count ∙ c .before .step-count .ensures .0)

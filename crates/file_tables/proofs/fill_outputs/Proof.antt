@@ -9,14 +9,14 @@ use borrow.Author.Needs.{needs}
 use lib.ListN.{length, getD, take, drop, set}
 use lib.Seq.{take-all}
 use Rattle.differences.specs.Table.{listed}
-use Rattle.differences.proofs.Listed.{length-values, getD-values}
+use Rattle.differences.proofs.Listed.{length-tabulate, getD-tabulate}
 use Rattle.evaluate.specs.Evaluate.{outputOf}
 use Rattle.evaluate.proofs.Words.{output-entries}
 use Rattle.evaluate.specs.Run.{Ready}
 use Rattle.places.specs.Places.{size, vectorAt}
 use Rattle.sizes.specs.Sizes.{maxInputs}
-use Rattle.vectors.specs.Vectors.{held, Placed}
-use Rattle.vectors.proofs.Held.{held-entry}
+use Rattle.vectors.specs.Vectors.{padded, Placed}
+use Rattle.vectors.proofs.Padded.{padded-entry}
 use Rattle.file_tables.specs.Filling.{Filling}
 use Rattle.slices.specs.Slices.{KeptPast}
 use Rattle.slices.proofs.Copied as Written
@@ -30,14 +30,14 @@ record Filled (s : List ℕ) (n : ℕ) (axes : List ℕ) (d count : ℕ) (scratc
   long : length scratch ≡ length scratch₀
   kept : KeptPast n scratch₀ scratch
   full : length v ≡ maxInputs
-  vector : p < count → v ≡ held (vectorAt (take d axes) p)
+  vector : p < count → v ≡ padded (vectorAt (take d axes) p)
 
 module _
     (s : List ℕ) (n : ℕ) (axes : List ℕ) (d count : ℕ) (scratch₀ table₀ scratch table v : List ℕ) (p : ℕ)
     (k : Filled s n axes d count scratch₀ table₀ scratch table v p)
   where
-    outputs-length : length (listed (take d axes) (outputOf s)) ≡ count
-    outputs-length = length-values _ 0 (size (take d axes)) ∙ sym (k .asked .counted)
+    length-outputs : length (listed (take d axes) (outputOf s)) ≡ count
+    length-outputs = length-tabulate _ 0 (size (take d axes)) ∙ sym (k .asked .counted)
 
     ready : Ready s n v scratch
     ready =
@@ -49,7 +49,7 @@ module _
         }
 
     finished : count ≤ p → table ≡ listed (take d axes) (outputOf s) ++ drop count table₀
-    finished h = Written.whole _ _ _ _ _ (k .written) h ∙ ap (λ l. l ++ drop count table₀) (take-all count _ (omega (arith, outputs-length)))
+    finished h = Written.whole _ _ _ _ _ (k .written) h ∙ ap (λ l. l ++ drop count table₀) (take-all count _ (omega (arith, length-outputs)))
 
     module _ (t : p < count) where
       inside : p < size (take d axes)
@@ -61,18 +61,18 @@ module _
       output-here : outputOf s v ≡ getD (listed (take d axes) (outputOf s)) p 0
       output-here =
           ap (outputOf s) (k .vector t)
-          ∙ output-entries s (held (vectorAt (take d axes) p)) (vectorAt (take d axes) p) (held-entry (vectorAt (take d axes) p))
-          ∙ sym (getD-values (λ q. outputOf s (vectorAt (take d axes) q)) 0 (size (take d axes)) 0 p inside ∙ ap (λ q. outputOf s (vectorAt (take d axes) q)) (omega arith))
+          ∙ output-entries s (padded (vectorAt (take d axes) p)) (vectorAt (take d axes) p) (padded-entry (vectorAt (take d axes) p))
+          ∙ sym (getD-tabulate (λ q. outputOf s (vectorAt (take d axes) q)) 0 (size (take d axes)) 0 p inside ∙ ap (λ q. outputOf s (vectorAt (take d axes) q)) (omega arith))
 
       more :
           (y : ℕ) (scratch' v' : List ℕ) → y ≡ outputOf s v → length scratch' ≡ length scratch → drop n scratch' ≡ drop n scratch →
           length v' ≡ maxInputs →
-          ((q : ℕ) → q + 1 < size (take d axes) → v ≡ held (vectorAt (take d axes) q) → v' ≡ held (vectorAt (take d axes) (q + 1))) →
+          ((q : ℕ) → q + 1 < size (take d axes) → v ≡ padded (vectorAt (take d axes) q) → v' ≡ padded (vectorAt (take d axes) (q + 1))) →
           Filled s n axes d count scratch₀ table₀ scratch' (set table p y) v' (p + 1)
       more y scratch' v' e l q w step =
           record {
             asked = k .asked;
-            written = Written.more _ _ _ _ _ (k .written) y t (omega (arith, outputs-length)) (k .asked .held) (e ∙ output-here);
+            written = Written.more _ _ _ _ _ (k .written) y t (omega (arith, length-outputs)) (k .asked .held) (e ∙ output-here);
             long = l ∙ k .long;
             kept = q ∙ k .kept;
             full = w;

@@ -12,14 +12,15 @@ use Rattle.lists.proofs.Lists.{set-front, map-take}
 use Rattle.places.proofs.Places.{size-snoc}
 use Rattle.places.specs.Places as Places
 use Rattle.places.specs.Places.{size}
+use Rattle.sizes.specs.Sizes.{maxInputs}
 use Rattle.grid.proofs.grid_of.Statement.{statement}
 use Rattle.grid.proofs.grid_of.Tie as tie
 
 -- i axes are in their place, and their product is the size
 record Filled (m d : ℕ) (widths axes : List ℕ) (size i : ℕ) : Type 0 where
-  known : length widths ≡ 8
+  known : length widths ≡ maxInputs
   within : i ≤ d
-  filled : axes ≡ map (axis m) (take i widths) ++ replicate (8 - i) 0
+  filled : axes ≡ map (axis m) (take i widths) ++ replicate (maxInputs - i) 0
   sized : size ≡ Places.size (map (axis m) (take i widths))
 
 abbrev Inv-loop : tie.InvT-loop
@@ -30,7 +31,7 @@ abbrev μ-loop : tie.MeasureT-loop
 μ-loop m d widths axes₀ size₀ i₀ axes size i = d - i
 
 module _ (m d : ℕ) (widths axes : List ℕ) (size i : ℕ) (f : Filled m d widths axes size i) where
-  more : (u : ℕ) → d ≤ 8 → i < d → u ≡ axis m (getD widths i 0) → Filled m d widths (set axes i u) (size * u) (i + 1)
+  more : (u : ℕ) → d ≤ maxInputs → i < d → u ≡ axis m (getD widths i 0) → Filled m d widths (set axes i u) (size * u) (i + 1)
   more u h l e = record { known = f .known; within = l'; filled = placed; sized = product }
     where
       l' : i + 1 ≤ d
@@ -42,13 +43,13 @@ module _ (m d : ℕ) (widths axes : List ℕ) (size i : ℕ) (f : Filled m d wid
       front : length (map (axis m) (take i widths)) ≡ i
       front = rw (length-map, length-take-le i widths (omega (arith, f .known)))
 
-      left : 8 - i ≡ suc (8 - (i + 1))
+      left : maxInputs - i ≡ suc (maxInputs - (i + 1))
       left = omega arith
 
-      placed : set axes i u ≡ map (axis m) (take (i + 1) widths) ++ replicate (8 - (i + 1)) 0
+      placed : set axes i u ≡ map (axis m) (take (i + 1) widths) ++ replicate (maxInputs - (i + 1)) 0
       placed =
           rw (f .filled, e)
-          (set-front (map (axis m) (take i widths)) (replicate (8 - i) 0) i (axis m (getD widths i 0)) front (rw length-replicate (omega arith))
+          (set-front (map (axis m) (take i widths)) (replicate (maxInputs - i) 0) i (axis m (getD widths i 0)) front (rw length-replicate (omega arith))
           ∙ ap₂ _++_ (sym (map-take (axis m) widths i used)) (ap (λ n. drop 1 (replicate n 0)) left))
 
       product : size * u ≡ Places.size (map (axis m) (take (i + 1) widths))
@@ -115,7 +116,7 @@ returns c =
     let z = c .before .before .before .before .before .args .z in
     let f = c .before .loop .inv in
     let e : c .before .loop .i ≡ z .d = omega arith in
-    λ j. record { axes = (f .filled ∙ ap (λ i. map (axis (z .m)) (take i (z .widths)) ++ replicate (8 - i) 0) e) j; size = (f .sized ∙ ap (λ i. Places.size (map (axis (z .m)) (take i (z .widths)))) e) j }
+    λ j. record { axes = (f .filled ∙ ap (λ i. map (axis (z .m)) (take i (z .widths)) ++ replicate (maxInputs - i) 0) e) j; size = (f .sized ∙ ap (λ i. Places.size (map (axis (z .m)) (take i (z .widths)))) e) j }
 
 pub grid-of-spec : {M : Type 1} → statement M
 grid-of-spec =

@@ -16,7 +16,7 @@ use Rattle.sizes.specs.Sizes.{maxInputs}
 use Rattle.sizes.specs.declared.Refusal.{Refusal}
 use Rattle.sizes.specs.declared.Sizes.{Sizes}
 use Rattle.grid_calls.specs.GridCalls.{gridLength, gridAsWords, noGrid}
-use Rattle.grid_calls.proofs.Answered.{refusal-none, grid-refused, grid-accepted}
+use Rattle.grid_calls.proofs.Answered.{refusal-accepted, grid-refused, grid-accepted}
 use Rattle.grid_calls.proofs.Put.{zeros-put, grid-put}
 use borrow.Author.Needs.{needs}
 use Rattle.grid_calls.proofs.grid_call.Statement.{statement}
@@ -136,7 +136,7 @@ returns-3 c =
           rw e
           (grid-put _ (now (entered k .args .out)) _ long (p .put-refusal .ensures) (g .result) _ (whole gridded) (copied .copy-front .ensures)
           ∙ ap (λ r. refusalWords r ++ gridAsWords (g .result)) (k .check .ensures)
-          ∙ ap (λ l. l ++ gridAsWords (g .result)) (refusal-none f (passed accepts))
+          ∙ ap (λ l. l ++ gridAsWords (g .result)) (refusal-accepted f (passed accepts))
           ∙ ap (λ (g : Grid). 0 ∷ 0 ∷ 0 ∷ gridAsWords g) (g .ensures ∙ ap gridOf (gridded .before .read-sizes .ensures))
           ∙ sym (grid-accepted f (passed accepts)));
     }

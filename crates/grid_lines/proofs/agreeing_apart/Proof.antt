@@ -1,20 +1,21 @@
 -- `grid_lines::agreeing_apart` meets its contract. The loop's invariant is `Agreed`: in the agreeing lanes the outputs agree at every value of the last
 -- input below t, and the rows hold the values at t - 1.
 -- Assumes nothing.
-use mathlib.Core.Path.{refl, _∙_}
+use mathlib.Core.Path.{_∙_}
 use Prim.Native.Nat.{_-_, _<_}
 use native.Mathlib.Omega.{arith}
-use borrow.Author.Needs.{needs}
 use denote.Ref.{now}
 use lib.ListN.{getD}
-use Rattle.batches.proofs.OnGrid.{axis-within, same-grid}
+use Rattle.batches.proofs.OnGrid.{same-grid}
 use Rattle.batches.proofs.Tests.{last₁, last₂, room₁, room₂, prepared-kept}
 use Rattle.fields.specs.File.{sizesOf}
 use Rattle.grid.specs.Grid.{axesOf}
 use Rattle.lanes.specs.Lanes.{LanesOnGrid}
+use Rattle.plan.proofs.Axes.{file-axis-most}
 use Rattle.plan.proofs.Numbers as plan
 use Rattle.rows.proofs.Writing.{before-row}
-use Rattle.grid_lines.proofs.Lines.{Agreed, none, axis-at, filled-on-grid, more}
+use Rattle.line_outputs.proofs.AlongLines.{filled-on-grid}
+use Rattle.grid_lines.proofs.Lines.{Agreed, agreed-start, axis-at, agreed-step}
 use Rattle.grid_lines.proofs.agreeing_apart.Statement.{statement}
 use Rattle.grid_lines.proofs.agreeing_apart.Tie as tie
 
@@ -62,7 +63,7 @@ array-read-u c =
     omega (arith, plan.inputs (k .planned), k .planned .files .sound₁ .inputsLow, k .planned .files .sound₁ .inputsHigh)
 
 loop-holds : tie.Need-loop-holds Inv-loop μ-loop
-loop-holds c = none _ _ _ _ _ _ _ _ _ (c .before .before .before .before .before .before .before .before .pre .1 .1 .1 .onGrid)
+loop-holds c = agreed-start _ _ _ _ _ _ _ _ _ (c .before .before .before .before .before .before .before .before .pre .1 .1 .1 .onGrid)
 
 sub-fill-row : tie.Need-sub-fill-row Inv-loop μ-loop
 sub-fill-row c =
@@ -140,7 +141,7 @@ add-t c =
     let f = filled (first (c .before .before .before .before .before .before)) in
     let k = entry (head f) .pre .0 .planned in
     let last = entry (head f) .args .plan .d - 1 in
-    omega (arith, f .before .before .loop-test .taken, axis-at k last (omega (arith, plan.inputs k, k .files .sound₁ .inputsLow)), axis-within _ (k .files .sound₁) last)
+    omega (arith, f .before .before .loop-test .taken, axis-at k last (omega (arith, plan.inputs k, k .files .sound₁ .inputsLow)), file-axis-most _ (k .files .sound₁) last)
 
 loop-less : tie.Need-loop-less Inv-loop μ-loop
 loop-less c = omega (arith, filled (first (c .before .before .before .before .before .before)) .before .before .loop-test .taken)
@@ -155,7 +156,7 @@ loop-again c =
     let run₂ = c .before .before .before .before .before .before .refresh2 in
     let long₁ = run₁ .kept .1 .1 .1 .0 in
     let long₂ = run₂ .kept .1 .1 .1 .0 in
-    more _ _ _ _ _ _ _ _ _ _ _ _ _ _ _
+    agreed-step _ _ _ _ _ _ _ _ _ _ _ _ _ _ _
     (prepared-kept (q .0) _ _ (long₁ ∙ inv .long₁) (long₂ ∙ inv .long₂)) inv (f .fill-row .ensures) (now (e .args .list1)) (now (e .args .list2)) _ _ _ _
     (f .before .before .loop-test .taken) (f .fill-row .kept .0) long₁ long₂ (q .1 .1 .0 .rest₁) (q .1 .1 .0 .rest₂) (run₁ .ensures) (run₂ .ensures) (plan.output (q .0 .planned)) (c .before .first-unequal .ensures)
 

@@ -1,24 +1,24 @@
 -- `grid_lines::agreeing_in_turn` meets its contract: a saved row shows the outputs of file 1, and in a matching lane those of file 2 too.
 -- Assumes nothing.
 use mathlib.Core.List.{List}
-use mathlib.Core.Path.{_≡_, refl, sym, _∙_, ap}
-use Prim.Native.Nat.{ℕ, _*_, _-_, _%_, _^_, _≤_, _<_}
+use mathlib.Core.Path.{_≡_, sym, _∙_, ap}
+use Prim.Native.Nat.{ℕ, _*_, _-_, _%_, _^_, _≤_}
 use native.Mathlib.Nat.{mul-le-mul-left}
 use native.Mathlib.Omega.{arith}
-use borrow.Author.Needs.{needs}
 use denote.Ref.{now}
 use lib.ListN.{length, getD}
 use Rattle.batches.specs.Prepared.{maxAxis}
-use Rattle.batches.proofs.OnGrid.{axis-within, same-grid}
+use Rattle.batches.proofs.OnGrid.{same-grid}
 use Rattle.batches.proofs.Tests.{room₁, room₂}
 use Rattle.evaluate.specs.Evaluate.{outputOf}
 use Rattle.fields.specs.File.{sizesOf}
 use Rattle.grid.specs.Grid.{axesOf}
 use Rattle.lanes.specs.Lanes.{Shown}
+use Rattle.plan.proofs.Axes.{file-axis-most}
 use Rattle.plan.proofs.Numbers as plan
 use Rattle.rows.specs.Rows.{lane}
 use Rattle.sizes.specs.declared.Sizes.{Sizes}
-use Rattle.grid_lines.specs.Block.{lastAxis}
+use Rattle.grid_lines.specs.Lines.{lastAxis}
 use Rattle.grid_lines.proofs.Lines.{axis-at}
 use Rattle.grid_lines.proofs.agreeing_in_turn.Statement.{statement}
 use Rattle.grid_lines.proofs.agreeing_in_turn.Tie as tie
@@ -40,7 +40,7 @@ axis c =
 saved-room : (c : tie.Start) → c .args .shape .w * lastAxis (c .args .plan) ≤ length (now (c .args .other))
 saved-room c =
     let k = c .pre .0 in
-    let short : lastAxis (c .args .plan) ≤ maxAxis = omega (arith, axis c, axis-within (now (c .args .file1)) (k .planned .files .sound₁) (c .args .plan .d - 1)) in
+    let short : lastAxis (c .args .plan) ≤ maxAxis = omega (arith, axis c, file-axis-most (now (c .args .file1)) (k .planned .files .sound₁) (c .args .plan .d - 1)) in
     omega (arith, mul-le-mul-left (c .args .shape .w) short, k .saved (c .pre .1 .0))
 
 sub-u : tie.Need-sub-u

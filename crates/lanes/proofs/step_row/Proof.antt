@@ -19,7 +19,7 @@ use Rattle.rows.specs.Rows.{lane, Operands}
 use Rattle.rows.proofs.Writing.{before-row}
 use Rattle.datapath.specs.declared.Step.{Step}
 use Rattle.datapath.specs.declared.Step.the-variants.{Input, Constant, Add, Subtract, Multiply}
-use Rattle.lanes.specs.Lanes.{StandsFor, Held, HeldTo, Room}
+use Rattle.lanes.specs.Lanes.{StandsFor, Held, Room}
 use Rattle.lanes.proofs.Residues.{residue-sum, residue-difference}
 use Rattle.lanes.proofs.Stepped.{width-most}
 use Rattle.lanes.proofs.step_row.Statement.{statement}

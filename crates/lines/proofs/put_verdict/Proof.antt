@@ -4,7 +4,7 @@ use borrow.Author.Needs.{needs}
 use Rattle.sessions.specs.declared.Kind.{Kind}
 use Rattle.printed.specs.Report.{shownText}
 use Rattle.printed.specs.Lines.{equivalentLine}
-use Rattle.text.proofs.Over.{put-none}
+use Rattle.text.proofs.Over.{put-start}
 use Rattle.lines.proofs.put_verdict.Statement.{statement}
 use Rattle.lines.proofs.put_verdict.Tie as tie
 
@@ -37,11 +37,11 @@ put-difference-requires c κs =
 
 returns : tie.Need-returns
 unfolding shownText
-returns c = rw (c .enum-told .given .1) (put-none _ _)
+returns c = rw (c .enum-told .given .1) (put-start _ _)
 
 returns-2 : tie.Need-returns-2
 unfolding shownText
-returns-2 c = rw (c .enum-told2 .given .1) (put-none _ _)
+returns-2 c = rw (c .enum-told2 .given .1) (put-start _ _)
 
 same-length : tie.Need-same-length
 same-length c = search needs

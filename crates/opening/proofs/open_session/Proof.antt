@@ -4,9 +4,10 @@ use mathlib.Core.Bool.{false}
 use mathlib.Core.Path.{_≡_, sym, _∙_, ap, ap₂}
 use borrow.Author.Tests.{eq-eqb, ne-eqb}
 use denote.Ref.{now}
+use Rattle.sizes.specs.Sizes.{isRefusal}
 use Rattle.sizes.specs.declared.Refusal.{Refusal}
 use Rattle.sizes.specs.declared.Sizes.{Sizes}
-use Rattle.sessions.specs.Session.{pairRefusal, isRefusal, opened}
+use Rattle.sessions.specs.Session.{pairRefusal, opened}
 use Rattle.sessions.specs.declared.Mark.the-variants.{Open}
 use Rattle.sessions.specs.declared.Opened.{Opened}
 use Rattle.sessions.specs.declared.Session.{Session}

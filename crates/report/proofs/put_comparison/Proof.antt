@@ -10,8 +10,8 @@ use Rattle.sessions.specs.declared.Opened.{Opened}
 use Rattle.sizes.specs.declared.Sizes.{Sizes}
 use Rattle.printed.specs.Report.{gridText, shownText, concluded}
 use Rattle.printed.specs.Lines.{runLine}
-use Rattle.text.specs.Writing.{Room, Put}
-use Rattle.text.proofs.Over.{room-first, room-second, put-none, put-then}
+use Rattle.text.specs.Writing.{RoomFor, Put}
+use Rattle.text.proofs.Over.{room-first, room-second, put-start, put-then}
 use Rattle.printed.proofs.Texts.{concluded-refused, concluded-lines, first-accepted}
 use Rattle.report.proofs.put_comparison.Statement.{statement}
 use Rattle.report.proofs.put_comparison.Tie as tie
@@ -38,7 +38,7 @@ returns c =
     let a = start opening .args in
     rw
     (concluded-refused (now (a .file1)) (now (a .file2)) (a .answer) (a .run) (λ e. c .if1 .taken (opened-number opening ∙ e)))
-    (put-none _ 0)
+    (put-start _ 0)
 
 -- opening is accepted where the lines are written
 accepted : (c : tie.Else1) →
@@ -55,7 +55,7 @@ three c = rw (c .read-sizes .ensures) (concluded-lines _ _ (accepted (c .before)
 
 room : (c : tie.After-read-sizes) →
     let a = sized c .args in
-    Room (gridText (now (a .file1)) ++ shownText (a .answer .kind) (c .read-sizes .result .d) (a .answer) ++ runLine (a .run))
+    RoomFor (gridText (now (a .file1)) ++ shownText (a .answer .kind) (c .read-sizes .result .d) (a .answer) ++ runLine (a .run))
     (now (a .text)) 0
 room c = rw (three c) at (sized c .pre)
 

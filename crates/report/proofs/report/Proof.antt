@@ -12,9 +12,9 @@ use mir.Val.{Fits}
 use Rattle.sessions.specs.declared.Answer.{Answer}
 use Rattle.printed.specs.Claims.{Words}
 use Rattle.report.specs.Report.{reportOf, textRoom, reported}
-use Rattle.text.specs.Writing.{Room, Put, TextWritten}
+use Rattle.text.specs.Writing.{RoomFor, Put, TextWritten}
 use Rattle.printed.proofs.Fits.{fits}
-use Rattle.text.proofs.Over.{put-none, at-front}
+use Rattle.text.proofs.Over.{put-start, at-front}
 use Rattle.printed.proofs.Texts.{report-refused, report-spent, report-equivalent, report-differs}
 use Rattle.report.proofs.Texts.{reported-short, reported-whole}
 use Rattle.printed.proofs.Words.{words}
@@ -24,7 +24,7 @@ use Rattle.report.proofs.report.Tie as tie
 
 module _ (f₁ f₂ : List ℕ) (a : Answer) (n : ℕ) (before : List ℕ) (room : textRoom ≤ length before) where
   -- there is room for a text that is the report
-  fits-in : (t : List ℕ) → reportOf f₁ f₂ a n ≡ t → Words a → Fits w64 n → Room t before 0
+  fits-in : (t : List ℕ) → reportOf f₁ f₂ a n ≡ t → Words a → Fits w64 n → RoomFor t before 0
   fits-in t e w h = record { fits = omega (arith, fits f₁ f₂ a n w (h .fits), ap length e) }
 
   -- and then it is what is written
@@ -44,7 +44,7 @@ returns : tie.Need-returns
 returns c =
     let a = c .before .before .before .before .args in
     let short = reported-short (now (a .file1)) (now (a .file2)) (a .answer) (a .run) (length (now (a .text))) (omega (arith, c .if1 .taken)) in
-    rw short (at-front (put-none _ 0))
+    rw short (at-front (put-start _ 0))
 
 enum-told : tie.Need-enum-told
 enum-told c = search needs
@@ -85,7 +85,7 @@ returns-2 c =
     (report-refused _ _ _ _ (arm .enum-told .given .1)) (c .before .before .put-refusal .ensures)
 
 returns-3 : tie.Need-returns-3
-returns-3 c = written _ _ _ _ _ (c .before .before .if1 .left) _ _ _ (report-spent _ _ _ _ (c .enum-told2 .given .1)) (put-none _ 0)
+returns-3 c = written _ _ _ _ _ (c .before .before .if1 .left) _ _ _ (report-spent _ _ _ _ (c .enum-told2 .given .1)) (put-start _ 0)
 
 same-length-2 : tie.Need-same-length-2
 same-length-2 c = search needs

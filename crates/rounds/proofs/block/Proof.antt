@@ -8,8 +8,8 @@ use native.Mathlib.Omega.{arith}
 use lib.ListN.{length}
 use denote.Ref.{now}
 use Rattle.rounds.specs.Passes.{factor, rounded, lines, partly}
-use Rattle.rounds.proofs.Multiples.{factors-pos}
-use Rattle.rounds.proofs.Rounds.{after-none, after-step, after-all}
+use Rattle.rounds.proofs.Multiples.{factors-least}
+use Rattle.rounds.proofs.Rounds.{after-start, after-step, after-end}
 use Rattle.rounds.proofs.block.Statement.{statement}
 use Rattle.rounds.proofs.block.Tie as tie
 
@@ -23,11 +23,11 @@ abbrev μ-loop : tie.MeasureT-loop
 loop-holds : tie.Need-loop-holds Inv-loop μ-loop
 loop-holds c =
     let a = c .before .args in
-    let z = factors-pos (a .u) (a .w) (omega arith) in (
+    let z = factors-least (a .u) (a .w) (omega arith) in (
       omega arith,
       omega arith,
       omega arith,
-      sym (after-none (factor (a .sum)) (a .u) (a .w) (z .0) (z .1) (now (a .cells)) (λ q. c .slice-known .given q .fits)),
+      sym (after-start (factor (a .sum)) (a .u) (a .w) (z .0) (z .1) (now (a .cells)) (λ q. c .slice-known .given q .fits)),
     )
 
 mul-round : tie.Need-mul-round Inv-loop μ-loop
@@ -40,7 +40,7 @@ loop-again : tie.Need-loop-again Inv-loop μ-loop
 loop-again c =
     let a = c .before .before .before .before .before .before .before .args in
     let l = c .before .before .before .before .before .loop in
-    let z = factors-pos (a .u) (a .w) (omega arith) in
+    let z = factors-least (a .u) (a .w) (omega arith) in
     let here : l .r ≡ suc (l .r - 1) = omega arith in
     let next : suc (l .r - 1) ≡ l .r + 1 - 1 = omega arith in (
       omega arith,
@@ -59,8 +59,8 @@ returns : tie.Need-returns Inv-loop μ-loop
 returns c =
     let a = c .before .before .before .args in
     let l = c .before .loop in
-    let z = factors-pos (a .u) (a .w) (omega arith) in
-    l .inv .3 ∙ after-all (factor (a .sum)) (a .u) (a .w) (z .0) (z .1) (now (a .cells)) (l .r - 1) (omega arith)
+    let z = factors-least (a .u) (a .w) (omega arith) in
+    l .inv .3 ∙ after-end (factor (a .sum)) (a .u) (a .w) (z .0) (z .1) (now (a .cells)) (l .r - 1) (omega arith)
 
 pub block-spec : {M : Type 1} → statement M
 block-spec =

@@ -3,24 +3,22 @@ use mathlib.Core.Path.{_≡_, sym, _∙_, ap, ap₂}
 use Prim.Native.Nat.{ℕ, _+_, _%_, _^_, _<_}
 use lib.IntN.{pos, negsuc, _+ℤ_, _*ℤ_}
 use borrow.Author.Needs.{needs}
-use Rattle.integers.proofs.Ring.{*ℤ-idl}
-use Rattle.differences.proofs.Neighbours.{opposite}
+use Rattle.integers.proofs.Ring.{+ℤ-opposite, *ℤ-idl}
 use Rattle.words.specs.Words.{word}
-use Rattle.words.proofs.Congruence.{word-add, word-sub}
-use Rattle.rounds.proofs.Rounds.{word-small}
+use Rattle.words.proofs.Congruence.{word-pos, word-add, word-sub}
 use Rattle.rounds.proofs.join.Statement.{statement}
 use Rattle.rounds.proofs.join.Tie as tie
 
 module _ (r a b : ℕ) (ha : a < 2 ^ 64) (hb : b < 2 ^ 64) where
   subtracted : r < 2 ^ 64 → (r + b) % 2 ^ 64 ≡ a → r ≡ word (pos a +ℤ negsuc 0 *ℤ pos b)
   subtracted hr e =
-      word-sub r (pos a) (pos b) hr (ap (λ (y : ℕ). (r + y) % 2 ^ 64) (word-small b hb) ∙ e ∙ sym (word-small a ha))
-      ∙ ap word (sym (opposite (pos a) (pos b)))
+      word-sub r (pos a) (pos b) hr (ap (λ (y : ℕ). (r + y) % 2 ^ 64) (word-pos b hb) ∙ e ∙ sym (word-pos a ha))
+      ∙ ap word (sym (+ℤ-opposite (pos a) (pos b)))
 
   added : r ≡ (a + b) % 2 ^ 64 → r ≡ word (pos a +ℤ pos 1 *ℤ pos b)
   added e =
       e
-      ∙ ap₂ (λ (x y : ℕ). (x + y) % 2 ^ 64) (sym (word-small a ha)) (sym (word-small b hb))
+      ∙ ap₂ (λ (x y : ℕ). (x + y) % 2 ^ 64) (sym (word-pos a ha)) (sym (word-pos b hb))
       ∙ word-add (pos a) (pos b)
       ∙ ap (λ z. word (pos a +ℤ z)) (sym (*ℤ-idl (pos b)))
 

@@ -10,7 +10,7 @@ use borrow.Author.Needs.{needs}
 use borrow.Rule.Slice.PartMut.{same-len-mid}
 use denote.Ref.{now}
 use Rattle.rounds.specs.Passes.{factor, passed}
-use Rattle.rounds.proofs.Multiples.{factors-pos, multiple-pos, multiple-next}
+use Rattle.rounds.proofs.Multiples.{factors-least, multiple-least, multiple-next}
 use Rattle.rounds.proofs.Blocks.{pass-start, pass-step, pass-end}
 use Rattle.rounds.proofs.pass.Statement.{statement}
 use Rattle.rounds.proofs.pass.Tie as tie
@@ -28,7 +28,7 @@ abbrev μ-loop : tie.MeasureT-loop
 sides : (c : tie.Start Inv-loop μ-loop) → (0 < c .args .u) × (0 < c .args .w)
 sides c =
     let a = c .args in
-    factors-pos (a .u) (a .w) (multiple-pos (a .u * a .w) (length (now (a .cells))) (c .pre .1) (c .pre .0))
+    factors-least (a .u) (a .w) (multiple-least (a .u * a .w) (length (now (a .cells))) (c .pre .1) (c .pre .0))
 
 -- the next block lies within the cells
 within :
@@ -61,13 +61,13 @@ block-requires : tie.Need-block-requires Inv-loop μ-loop
 block-requires c κs =
     let a = c .before .before .before .before .args in
     let l = c .before .before .loop in
-    let z = multiple-pos (a .u * a .w) (length (now (a .cells))) (c .before .before .before .before .pre .1) (omega arith) in
+    let z = multiple-least (a .u * a .w) (length (now (a .cells))) (c .before .before .before .before .pre .1) (omega arith) in
     simp (length-take, length-drop) (omega (arith, within (c .before)))
 
 loop-less : tie.Need-loop-less Inv-loop μ-loop
 loop-less c =
     let a = c .before .before .before .before .before .before .before .args in
-    let z = multiple-pos (a .u * a .w) (length (now (a .cells))) (c .before .before .before .before .before .before .before .pre .1) (omega arith) in
+    let z = multiple-least (a .u * a .w) (length (now (a .cells))) (c .before .before .before .before .before .before .before .pre .1) (omega arith) in
     omega (arith, within (c .before .before .before .before))
 
 loop-again : tie.Need-loop-again Inv-loop μ-loop

@@ -6,7 +6,7 @@ use Prim.Native.Nat.{_+_, _*_, _-_, _≤_}
 use native.Mathlib.Omega.{arith}
 use borrow.Author.Needs.{needs}
 use lib.ListN.{getD}
-use Rattle.rows.proofs.Writing.{before-row, same-lane, Put, put-none, put-more}
+use Rattle.rows.proofs.Writing.{before-row, same-lane, Put, put-start, put-step}
 use Rattle.sizes.specs.Sizes.{maxInputs}
 use Rattle.row_lanes.proofs.set_column.Statement.{statement}
 use Rattle.row_lanes.proofs.set_column.Tie as tie
@@ -25,7 +25,7 @@ loop-again : tie.Need-loop-again Inv-loop μ-loop
 loop-again c =
     let h = input-row c in
     let apart = before-row (c .before .before .args .w) in
-    (omega arith, put-more (c .before .loop .inv .1) _ (omega arith) (λ j h e. omega (arith, apart j (c .before .loop .i) h)) refl)
+    (omega arith, put-step (c .before .loop .inv .1) _ (omega arith) (λ j h e. omega (arith, apart j (c .before .loop .i) h)) refl)
 
 returns : tie.Need-returns Inv-loop μ-loop
 returns c =
@@ -41,7 +41,7 @@ set-column-spec =
     (tie.spec
     Inv-loop
     μ-loop
-    (λ c. (omega arith, put-none _ _ _))
+    (λ c. (omega arith, put-start _ _ _))
     (λ c. search needs)
     (λ c. search needs)
     (λ c. let h = input-row c in search needs)

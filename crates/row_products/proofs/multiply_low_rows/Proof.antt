@@ -5,14 +5,14 @@ use mathlib.Core.Path.{ap₂}
 use Prim.Native.Nat.{ℕ, _-_, _*_, _%_, _^_}
 use native.Mathlib.Omega.{arith}
 use borrow.Author.Needs.{needs}
-use Rattle.words.proofs.Halves.{product-lt}
-use Rattle.rows.proofs.Writing.{left-row, right-row, Row, row-none, row-more, row-all}
-use Rattle.row_products.specs.Products.{lowProducts}
+use Rattle.words.proofs.Halves.{product-most}
+use Rattle.rows.proofs.Writing.{left-row, right-row, Row, row-start, row-step, row-end}
+use Rattle.row_products.specs.Products.{rowLowProducts}
 use Rattle.row_products.proofs.multiply_low_rows.Statement.{statement}
 use Rattle.row_products.proofs.multiply_low_rows.Tie as tie
 
 abbrev Inv-loop : tie.InvT-loop
-Inv-loop rows₀ k a b w x y l₀ rows l = Row w rows₀ rows k (lowProducts w rows₀ a b) l
+Inv-loop rows₀ k a b w x y l₀ rows l = Row w rows₀ rows k (rowLowProducts w rows₀ a b) l
 
 abbrev μ-loop : tie.MeasureT-loop
 μ-loop rows₀ k a b w x y l₀ rows l = w - l
@@ -27,7 +27,7 @@ loop-again : tie.Need-loop-again Inv-loop μ-loop
 loop-again c =
     let l = c .before .loop .l in
     let t = c .loop-test .taken in
-    row-more (c .before .loop .inv) (c .before .before .before .before .before .before .before .pre .room) t _
+    row-step (c .before .loop .inv) (c .before .before .before .before .before .before .before .pre .room) t _
     (ap₂ (λ (x y : ℕ). (x % 2 ^ 32) * (y % 2 ^ 32)) (c .before .before .before .before .row .ensures l t) (c .before .before .row2 .ensures l t))
 
 pub multiply-low-rows-spec : {M : Type 1} → statement M
@@ -38,12 +38,12 @@ multiply-low-rows-spec =
     μ-loop
     row-requires
     row-requires-2
-    (λ c. row-none _ _ _ _)
+    (λ c. row-start _ _ _ _)
     (λ c. search needs)
     (λ c. search needs)
     (λ c. search needs)
     (λ c. search needs)
-    (λ c. record { fits = product-lt 32 (omega arith) (omega arith) })
+    (λ c. record { fits = product-most 32 (omega arith) (omega arith) })
     (λ c. search needs)
     (λ c. search needs)
     (λ c. search needs)
@@ -52,4 +52,4 @@ multiply-low-rows-spec =
     (λ c. search needs)
     loop-again
     (λ c. search needs)
-    (λ c. row-all (c .before .loop .inv) (c .loop-test .left)))
+    (λ c. row-end (c .before .loop .inv) (c .loop-test .left)))

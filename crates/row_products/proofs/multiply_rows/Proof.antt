@@ -4,13 +4,13 @@
 use mathlib.Core.Path.{_∙_, ap₂}
 use Prim.Native.Nat.{ℕ, _-_, _*_, _%_, _^_}
 use borrow.Author.Needs.{needs}
-use Rattle.rows.proofs.Writing.{left-row, right-row, Row, row-none, row-more, row-all, row-kept}
-use Rattle.row_products.specs.Products.{products}
+use Rattle.rows.proofs.Writing.{left-row, right-row, Row, row-start, row-step, row-end, row-kept}
+use Rattle.row_products.specs.Products.{rowProducts}
 use Rattle.row_products.proofs.multiply_rows.Statement.{statement}
 use Rattle.row_products.proofs.multiply_rows.Tie as tie
 
 abbrev Inv-loop : tie.InvT-loop
-Inv-loop rows₀ k a b w l₀ rows l = Row w rows₀ rows k (products w rows₀ a b) l
+Inv-loop rows₀ k a b w l₀ rows l = Row w rows₀ rows k (rowProducts w rows₀ a b) l
 
 abbrev μ-loop : tie.MeasureT-loop
 μ-loop rows₀ k a b w l₀ rows l = w - l
@@ -21,7 +21,7 @@ loop-again c =
     let l = c .before .before .before .before .loop .l in
     let t = c .before .before .before .loop-test .taken in
     let o = c .before .before .before .before .before .before .pre in
-    row-more r (o .room) t _ (c .wrapping-mul .ensures ∙ ap₂ (λ (x y : ℕ). (x * y) % 2 ^ 64) (row-kept r _ l (o .left) t) (row-kept r _ l (o .right) t))
+    row-step r (o .room) t _ (c .wrapping-mul .ensures ∙ ap₂ (λ (x y : ℕ). (x * y) % 2 ^ 64) (row-kept r _ l (o .left) t) (row-kept r _ l (o .right) t))
 
 pub multiply-rows-spec : {M : Type 1} → statement M
 multiply-rows-spec =
@@ -29,7 +29,7 @@ multiply-rows-spec =
     (tie.spec
     Inv-loop
     μ-loop
-    (λ c. row-none _ _ _ _)
+    (λ c. row-start _ _ _ _)
     (λ c. let h = left-row (c .before .before .before .pre) in search needs)
     (λ c. let h = left-row (c .before .before .before .pre) in search needs)
     (λ c. let h = left-row (c .before .before .before .pre) in search needs)
@@ -47,4 +47,4 @@ multiply-rows-spec =
     (λ c. search needs)
     loop-again
     (λ c. search needs)
-    (λ c. row-all (c .before .loop .inv) (c .loop-test .left)))
+    (λ c. row-end (c .before .loop .inv) (c .loop-test .left)))

@@ -3,13 +3,13 @@
 use mathlib.Core.Path.{_∙_, ap₂}
 use Prim.Native.Nat.{ℕ, _+_, _-_, _%_, _^_}
 use borrow.Author.Needs.{needs}
-use Rattle.rows.proofs.Writing.{left-row, right-row, Row, row-none, row-more, row-all}
-use Rattle.row_sums.specs.Sums.{sums}
+use Rattle.rows.proofs.Writing.{left-row, right-row, Row, row-start, row-step, row-end}
+use Rattle.row_sums.specs.Sums.{rowSums}
 use Rattle.row_sums.proofs.add_rows.Statement.{statement}
 use Rattle.row_sums.proofs.add_rows.Tie as tie
 
 abbrev Inv-loop : tie.InvT-loop
-Inv-loop rows₀ k a b w x y l₀ rows l = Row w rows₀ rows k (sums w rows₀ a b) l
+Inv-loop rows₀ k a b w x y l₀ rows l = Row w rows₀ rows k (rowSums w rows₀ a b) l
 
 abbrev μ-loop : tie.MeasureT-loop
 μ-loop rows₀ k a b w x y l₀ rows l = w - l
@@ -24,7 +24,7 @@ loop-again : tie.Need-loop-again Inv-loop μ-loop
 loop-again c =
     let l = c .before .before .loop .l in
     let t = c .before .loop-test .taken in
-    row-more (c .before .before .loop .inv) (c .before .before .before .before .before .before .before .before .pre .room) t _
+    row-step (c .before .before .loop .inv) (c .before .before .before .before .before .before .before .before .pre .room) t _
     (c .wrapping-add-u64 .ensures
     ∙ ap₂ (λ (x y : ℕ). (x + y) % 2 ^ 64) (c .before .before .before .before .before .row .ensures l t) (c .before .before .before .row2 .ensures l t))
 
@@ -36,7 +36,7 @@ add-rows-spec =
     μ-loop
     row-requires
     row-requires-2
-    (λ c. row-none _ _ _ _)
+    (λ c. row-start _ _ _ _)
     (λ c. search needs)
     (λ c. search needs)
     (λ c. search needs)
@@ -50,4 +50,4 @@ add-rows-spec =
     (λ c. search needs)
     loop-again
     (λ c. search needs)
-    (λ c. row-all (c .before .loop .inv) (c .loop-test .left)))
+    (λ c. row-end (c .before .loop .inv) (c .loop-test .left)))

@@ -4,7 +4,7 @@
 use Prim.Native.Nat.{_-_}
 use borrow.Author.Needs.{needs}
 use Rattle.rows.specs.Rows.{lane}
-use Rattle.rows.proofs.Writing.{Row, row-none, row-more, row-all}
+use Rattle.rows.proofs.Writing.{Row, row-start, row-step, row-end}
 use Rattle.rows.proofs.copy_row.Statement.{statement}
 use Rattle.rows.proofs.copy_row.Tie as tie
 
@@ -21,7 +21,7 @@ loop-again : tie.Need-loop-again Inv-loop μ-loop
 loop-again c =
     let l = c .before .loop .l in
     let t = c .loop-test .taken in
-    row-more (c .before .loop .inv) (c .before .before .before .before .before .pre .1) t _ (c .before .before .row .ensures l t)
+    row-step (c .before .loop .inv) (c .before .before .before .before .before .pre .1) t _ (c .before .before .row .ensures l t)
 
 pub copy-row-spec : {M : Type 1} → statement M
 copy-row-spec =
@@ -30,7 +30,7 @@ copy-row-spec =
     Inv-loop
     μ-loop
     row-requires
-    (λ c. row-none _ _ _ _)
+    (λ c. row-start _ _ _ _)
     (λ c. search needs)
     (λ c. search needs)
     (λ c. search needs)
@@ -41,4 +41,4 @@ copy-row-spec =
     (λ c. search needs)
     loop-again
     (λ c. search needs)
-    (λ c. row-all (c .before .loop .inv) (c .loop-test .left)))
+    (λ c. row-end (c .before .loop .inv) (c .loop-test .left)))

@@ -3,7 +3,7 @@
 use mathlib.Core.Path.{refl}
 use Prim.Native.Nat.{_-_}
 use borrow.Author.Needs.{needs}
-use Rattle.rows.proofs.Writing.{Row, row-none, row-more, row-all}
+use Rattle.rows.proofs.Writing.{Row, row-start, row-step, row-end}
 use Rattle.rows.proofs.fill_row.Statement.{statement}
 use Rattle.rows.proofs.fill_row.Tie as tie
 
@@ -19,13 +19,13 @@ fill-row-spec =
     (tie.spec
     Inv-loop
     μ-loop
-    (λ c. row-none _ _ _ _)
+    (λ c. row-start _ _ _ _)
     (λ c. search needs)
     (λ c. search needs)
     (λ c. search needs)
     (λ c. search needs)
     (λ c. search needs)
     (λ c. search needs)
-    (λ c. row-more (c .before .loop .inv) (c .before .before .pre) (c .loop-test .taken) _ refl)
+    (λ c. row-step (c .before .loop .inv) (c .before .before .pre) (c .loop-test .taken) _ refl)
     (λ c. search needs)
-    (λ c. row-all (c .before .loop .inv) (c .loop-test .left)))
+    (λ c. row-end (c .before .loop .inv) (c .loop-test .left)))

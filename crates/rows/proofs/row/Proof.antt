@@ -5,7 +5,7 @@ use Prim.Native.Nat.{_-_, _≤_}
 use native.Mathlib.Omega.{arith}
 use borrow.Author.Needs.{needs}
 use Rattle.rows.specs.Rows.{lane}
-use Rattle.rows.proofs.Writing.{Put, put-none, put-more}
+use Rattle.rows.proofs.Writing.{Put, put-start, put-step}
 use Rattle.rows.proofs.row.Statement.{statement}
 use Rattle.rows.proofs.row.Tie as tie
 
@@ -18,7 +18,7 @@ abbrev μ-loop : tie.MeasureT-loop
 loop-again : tie.Need-loop-again Inv-loop μ-loop
 loop-again c =
     let lanes = c .before .before .before .pre .0 in
-    (omega arith, put-more (c .before .before .loop .inv .1) _ (omega (arith, c .before .loop-test .taken)) (λ i h e. omega arith) refl)
+    (omega arith, put-step (c .before .before .loop .inv .1) _ (omega (arith, c .before .loop-test .taken)) (λ i h e. omega arith) refl)
 
 returns : tie.Need-returns Inv-loop μ-loop
 returns c = λ i h. c .before .loop .inv .1 .new i (omega arith)
@@ -29,7 +29,7 @@ row-spec =
     (tie.spec
     Inv-loop
     μ-loop
-    (λ c. (omega arith, put-none _ _ _))
+    (λ c. (omega arith, put-start _ _ _))
     (λ c. search needs)
     (λ c. search needs)
     (λ c. search needs)

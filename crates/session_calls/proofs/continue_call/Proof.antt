@@ -9,7 +9,7 @@ use lib.ListN.{length}
 use Rattle.layouts.specs.AnswerWords.{answerWords}
 use Rattle.layouts.specs.SessionWords.{sessionWords, sessionFits}
 use Rattle.layouts.proofs.Told.{session-told}
-use Rattle.sessions.specs.Session.{continued, scratchAfter}
+use Rattle.sessions.specs.Session.{continued, continuedScratch}
 use Rattle.sessions.specs.declared.Continued.{Continued}
 use Rattle.session_calls.proofs.Calls.{continue-answer-wrong, continue-judged, continue-wrong, continue-right}
 use borrow.Author.Needs.{needs}
@@ -74,7 +74,7 @@ returns-3 c =
     continue-right _ _ _ _ _ _ _ _ _
     (continue-judged _ _ (judged lent .before .before .before .if1 .left) ∙ fits (judged lent))
     (put c .put-session .ensures ∙ ap (λ (k : Continued). sessionWords (k .session)) r)
-    (o .scratch ∙ ap (λ y. scratchAfter (now (a .file1)) (now (a .file2)) y (a .budget) (now (a .scratch))) z)
+    (o .scratch ∙ ap (λ y. continuedScratch (now (a .file1)) (now (a .file2)) y (a .budget) (now (a .scratch))) z)
     (c .before .before .put-answer .ensures ∙ ap (λ (k : Continued). answerWords (k .answer)) r)
 
 pub continue-call-spec : {M : Type 1} → statement M

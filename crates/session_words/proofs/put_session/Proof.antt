@@ -19,15 +19,15 @@ use Rattle.session_words.proofs.put_session.Statement.{statement}
 use Rattle.session_words.proofs.put_session.Tie as tie
 
 written :
-    (z : Session) (entry out : List ℕ) (k : ℕ) → WholeWidths (z .sizes) → length entry ≡ sessionLength →
-    out ≡ overwritten sizesLength (sizeWords (z .sizes)) entry → k ≡ markWord (z .mark) →
-    set (set out atPosition (z .position)) atMark k ≡ sessionWords z
+    (σ : Session) (entry out : List ℕ) (k : ℕ) → WholeWidths (σ .sizes) → length entry ≡ sessionLength →
+    out ≡ overwritten sizesLength (sizeWords (σ .sizes)) entry → k ≡ markWord (σ .mark) →
+    set (set out atPosition (σ .position)) atMark k ≡ sessionWords σ
 unfolding sessionWords sizeWords
-written z entry out k e l p q =
-    let words = sizeWords (z .sizes) in
-    ap (λ o. set (set o atPosition (z .position)) atMark k) (p ∙ ap (λ w. w ++ drop sizesLength entry) (take-all sizesLength words (omega arith)))
-    ∙ two-written sizesLength words (drop sizesLength entry) (z .position) k (omega arith) (simp length-drop (omega arith))
-    ∙ ap (λ j. words ++ (z .position ∷ j ∷ [])) q
+written σ entry out k e l p q =
+    let words = sizeWords (σ .sizes) in
+    ap (λ o. set (set o atPosition (σ .position)) atMark k) (p ∙ ap (λ w. w ++ drop sizesLength entry) (take-all sizesLength words (omega arith)))
+    ∙ two-written sizesLength words (drop sizesLength entry) (σ .position) k (omega arith) (simp length-drop (omega arith))
+    ∙ ap (λ j. words ++ (σ .position ∷ j ∷ [])) q
 
 widths : (c : tie.Start) → WholeWidths (c .args .session .sizes)
 widths c = search needs

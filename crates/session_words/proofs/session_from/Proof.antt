@@ -2,7 +2,7 @@
 -- Assumes nothing.
 use native.Mathlib.Omega.{arith}
 use denote.Ref.{now}
-use Rattle.layouts.specs.Lengths.{word, atPosition}
+use Rattle.layouts.specs.Lengths.{wordAt, atPosition}
 use Rattle.layouts.specs.SessionWords.{sessionFrom}
 use Rattle.layouts.proofs.Told.{session-told}
 use borrow.Author.Needs.{needs}
@@ -26,7 +26,7 @@ unfolding sessionFrom
 returns c =
     let read = c .before .before .before in
     let w = now (read .before .before .args .words) in
-    λ i. record { sizes = read .sizes-from .ensures i; position = word w atPosition; mark = c .before .mark-from .ensures i }
+    λ i. record { sizes = read .sizes-from .ensures i; position = wordAt w atPosition; mark = c .before .mark-from .ensures i }
 
 pub session-from-spec : {M : Type 1} → statement M
 session-from-spec =

@@ -9,18 +9,18 @@ use native.Mathlib.Nat.{div-mul-le-self, le-refl, le-trans, mul-le-mul-right}
 use native.Mathlib.Omega.{arith}
 use borrow.Author.Needs.{needs}
 use Rattle.batches.proofs.Tests.{prepared-kept}
-use Rattle.grid_lines.specs.Block.{lastAxis}
+use Rattle.grid_lines.specs.Lines.{lastAxis}
 use Rattle.lanes.proofs.Stepped.{width-least}
 use Rattle.plan.proofs.Numbers as plan
 use Rattle.ranges.specs.Search.{first}
 use Rattle.ranges.proofs.Search.{first-before, NoneBelow, first-past, first-part}
-use Rattle.spans.proofs.GridLines.{axis-pos}
+use Rattle.line_groups.proofs.GridLines.{last-axis-least}
 use Rattle.spans.proofs.by_lines.Statement.{statement}
 use Rattle.spans.proofs.by_lines.Tie as tie
 
 -- a line at most the count of the whole lines before `end` starts at `end` or before it
-line-start : (u end line : ℕ) → line ≤ end / u → line * u ≤ end
-line-start u end line h = le-trans (mul-le-mul-right u h) (div-mul-le-self end u)
+line-most : (u end line : ℕ) → line ≤ end / u → line * u ≤ end
+line-most u end line h = le-trans (mul-le-mul-right u h) (div-mul-le-self end u)
 
 -- a search that passes the head goes on behind a stretch with none
 passed :
@@ -43,10 +43,10 @@ searched c = c .before .before .before .before .before .before .before .before .
 abbrev lined : tie.After-by-batches3 → tie.After-agreed-lines
 lined c = c .before .before .before .before .before .before .before .before .before .before .before .before .before
 
-axis-some : (c : tie.Start) → 0 < lastAxis (c .args .plan)
-axis-some c =
+axis-least : (c : tie.Start) → 0 < lastAxis (c .args .plan)
+axis-least c =
     let k = c .pre .0 .planned in
-    axis-pos (c .args .plan .axes) (c .args .plan .d) (omega (arith, plan.inputs k, k .files .sound₁ .inputsLow)) (plan.enough k) (c .args .span .from)
+    last-axis-least (c .args .plan .axes) (c .args .plan .d) (omega (arith, plan.inputs k, k .files .sound₁ .inputsLow)) (plan.enough k) (c .args .span .from)
     (omega (arith, c .pre .1 .1))
 
 end-fits : (c : tie.Start) → c .args .span .end < 2 ^ 64
@@ -63,7 +63,7 @@ middle c =
     let a = entry c .args in
     let order : c .before .before .first-line .result ≤ a .span .end / lastAxis (a .plan) =
     omega (arith, c .if1 .left, c .before .between .ensures, width-least (entry c .pre .0 .width)) in
-    record { order = order; after = c .before .before .first-line .ensures .after; before = line-start (lastAxis (a .plan)) (a .span .end) _ order }
+    record { order = order; after = c .before .before .first-line .ensures .after; before = line-most (lastAxis (a .plan)) (a .span .end) _ order }
 
 sub-u : tie.Need-sub-u
 sub-u c =
@@ -81,10 +81,10 @@ array-read-u c =
     omega (arith, plan.inputs k, k .files .sound₁ .inputsLow, k .files .sound₁ .inputsHigh)
 
 first-line-requires : tie.Need-first-line-requires
-first-line-requires c κs = axis-some (c .before .before .before .before .before .before .before .before)
+first-line-requires c κs = axis-least (c .before .before .before .before .before .before .before .before)
 
 div-stop : tie.Need-div-stop
-div-stop c = axis-some (c .before .before .before .before .before .before .before .before .before)
+div-stop c = axis-least (c .before .before .before .before .before .before .before .before .before)
 
 between-requires : tie.Need-between-requires
 between-requires c κs = search needs
@@ -137,14 +137,14 @@ agreed-lines-requires c κs =
     let a = entry (guarded s) .args in
     let kept = s .by-batches2 .kept in (
       prepared-kept (q .0) _ _ (kept .1 .1 .1 .1 .1 .1 .0) (kept .1 .1 .1 .1 .1 .1 .1 .0),
-      (q .1 .0, (middle (guarded s) .order, le-trans (line-start (lastAxis (a .plan)) (a .span .end) _ (le-refl _)) (q .1 .1 .1))),
+      (q .1 .0, (middle (guarded s) .order, le-trans (line-most (lastAxis (a .plan)) (a .span .end) _ (le-refl _)) (q .1 .1 .1))),
     )
 
 mul-by-batches : tie.Need-mul-by-batches
 mul-by-batches c =
     let r = c .before .before .before .before .before .before .before .before .before .before in
     let e = entry (guarded (searched r)) in
-    omega (arith, line-start (lastAxis (e .args .plan)) (e .args .span .end) (r .agreed-lines .result) (r .agreed-lines .ensures .high), end-fits e)
+    omega (arith, line-most (lastAxis (e .args .plan)) (e .args .span .end) (r .agreed-lines .result) (r .agreed-lines .ensures .high), end-fits e)
 
 by-batches-requires-3 : tie.Need-by-batches-requires-3
 by-batches-requires-3 c κs =
@@ -153,7 +153,7 @@ by-batches-requires-3 c κs =
     let kept = searched r .by-batches2 .kept in
     let lines = r .agreed-lines in (
       prepared-kept (e .pre .0) _ _ (lines .kept .1 .1 .1 .1 .1 .0 ∙ kept .1 .1 .1 .1 .1 .1 .0) (lines .kept .1 .1 .1 .1 .1 .1 .0 ∙ kept .1 .1 .1 .1 .1 .1 .1 .0),
-      (line-start (lastAxis (e .args .plan)) (e .args .span .end) (lines .result) (lines .ensures .high), e .pre .1 .1 .1),
+      (line-most (lastAxis (e .args .plan)) (e .args .span .end) (lines .result) (lines .ensures .high), e .pre .1 .1 .1),
     )
 
 same-length-5 : tie.Need-same-length-5
@@ -191,7 +191,7 @@ returns-3 c =
           b .by-batches3 .ensures
           ∙ sym
           (passed _ _ (guarded s .before .before .first-line .result * u) _ _ (middle (guarded s) .after) (mul-le-mul-right u (lines .ensures .low))
-          (line-start u (a .span .end) (lines .result) (lines .ensures .high)) (omega (arith, s .by-batches2 .ensures, past)) (lines .ensures .agree));
+          (line-most u (a .span .end) (lines .result) (lines .ensures .high)) (omega (arith, s .by-batches2 .ensures, past)) (lines .ensures .agree));
       kept = lines .ensures .kept;
     }
 

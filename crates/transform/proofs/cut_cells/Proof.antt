@@ -9,7 +9,7 @@ use native.Mathlib.Omega.{arith}
 use lib.ListN.{length, getD, set, length-set, length-map, List·getD-map}
 use borrow.Author.Needs.{needs}
 use denote.Ref.{now}
-use Rattle.rounds.proofs.Splice.{splice, splice-none, splice-all, splice-up, getD-splice-high}
+use Rattle.rounds.proofs.Splice.{splice, splice-start, splice-end, splice-up, getD-splice-rest}
 use Rattle.transform.proofs.cut_cells.Statement.{statement}
 use Rattle.transform.proofs.cut_cells.Tie as tie
 
@@ -20,7 +20,7 @@ cut-step m l cells i h e =
     let k = map (λ (x : ℕ). x % 2 ^ m) l in
     let same = length-map l (λ (x : ℕ). x % 2 ^ m) in
     rw (e, add-one i)
-    (ap (λ (x : ℕ). set (splice i k l) i (x % 2 ^ m)) (getD-splice-high i k l i same (omega arith))
+    (ap (λ (x : ℕ). set (splice i k l) i (x % 2 ^ m)) (getD-splice-rest i k l i same (omega arith))
     ∙ ap (set (splice i k l) i) (sym (rw (zero-mod (2 ^ m)) at (List·getD-map (λ (x : ℕ). x % 2 ^ m) l i 0)))
     ∙ splice-up i k l same (omega arith))
 
@@ -44,7 +44,7 @@ returns : tie.Need-returns Inv-loop μ-loop
 returns c =
     let a = c .before .before .before .args in
     let same = length-map (now (a .cells)) (λ (x : ℕ). x % 2 ^ a .m) in
-    c .before .loop .inv .2 ∙ splice-all _ _ _ (omega arith) (omega arith)
+    c .before .loop .inv .2 ∙ splice-end _ _ _ (omega arith) (omega arith)
 
 pub cut-cells-spec : {M : Type 1} → statement M
 cut-cells-spec =
@@ -52,7 +52,7 @@ cut-cells-spec =
     (tie.spec
     Inv-loop
     μ-loop
-    (λ c. (omega arith, omega arith, sym (splice-none _ _)))
+    (λ c. (omega arith, omega arith, sym (splice-start _ _)))
     (λ c. search needs)
     (λ c. omega arith)
     (λ c κs. search needs)

@@ -12,11 +12,11 @@ use mir.Syntax.{w64}
 use denote.Ref.{now}
 use Rattle.places.specs.Places.{size}
 use Rattle.rounds.specs.Passes.{factor, passed}
-use Rattle.rounds.proofs.Multiples.{factors-pos, multiple-pos, multiple-le}
+use Rattle.rounds.proofs.Multiples.{factors-least, multiple-least, multiple-most}
 use Rattle.sizes.specs.Sizes.{maxInputs}
 use Rattle.transform.specs.Transform.{blockwise}
 use Rattle.transform.proofs.Axes.{size-multiple, drop-axis}
-use Rattle.transform.proofs.Blocks.{blockwise-none, blockwise-step, blockwise-all}
+use Rattle.transform.proofs.Blocks.{blockwise-start, blockwise-step, blockwise-end}
 use Rattle.transform.proofs.passes.Statement.{statement}
 use Rattle.transform.proofs.passes.Tie as tie
 
@@ -60,7 +60,7 @@ loop-holds c =
       omega arith,
       sym
           (ap (λ (vs : List ℕ). blockwise (factor (a .sum)) vs (now (a .cells))) none
-          ∙ blockwise-none (factor (a .sum)) (now (a .cells)) (λ q. c .slice-known .given q .fits)),
+          ∙ blockwise-start (factor (a .sum)) (now (a .cells)) (λ q. c .slice-known .given q .fits)),
     )
 
 pass-requires : tie.Need-pass-requires Inv-loop μ-loop
@@ -72,7 +72,7 @@ pass-requires c κs =
 mul-w : tie.Need-mul-w Inv-loop μ-loop
 mul-w c =
     let s = c .before .before .before .before .before .before .before in
-    omega (arith, multiple-le _ _ (axis (c .before .before .before .before) .1) (s .pre .some))
+    omega (arith, multiple-most _ _ (axis (c .before .before .before .before) .1) (s .pre .some))
 
 loop-again : tie.Need-loop-again Inv-loop μ-loop
 unfolding size
@@ -84,7 +84,7 @@ loop-again c =
     let s = factor (a .sum) in
     let u = getD (a .t2) (l .i - 1) 0 in
     let vs = drop (l .i) (take (a .d) (a .t2)) in
-    let z = factors-pos u (l .w) (multiple-pos (u * l .w) (length (now (a .cells))) (e .1) (start .pre .some)) in (
+    let z = factors-least u (l .w) (multiple-least (u * l .w) (length (now (a .cells))) (e .1) (start .pre .some)) in (
       omega arith,
       mul-comm (l .w) u ∙ ap (λ (w : ℕ). u * w) (l .inv .1) ∙ sym (ap size (e .0)),
       c .before .before .pass .kept .0 ∙ l .inv .2,
@@ -104,7 +104,7 @@ returns c =
     let none : l .i ≡ 0 = omega arith in
     l .inv .3
     ∙ ap (λ (i : ℕ). blockwise (factor (a .sum)) (drop i (take (a .d) (a .t2))) (now (a .cells))) none
-    ∙ blockwise-all (factor (a .sum)) (take (a .d) (a .t2)) (now (a .cells)) (sym (c .before .before .before .pre .counted))
+    ∙ blockwise-end (factor (a .sum)) (take (a .d) (a .t2)) (now (a .cells)) (sym (c .before .before .before .pre .counted))
 
 pub passes-spec : {M : Type 1} → statement M
 passes-spec =

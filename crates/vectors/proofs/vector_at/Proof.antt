@@ -12,7 +12,7 @@ use lib.Seq.{getD-set-other, length-take-le, getD-take}
 use Rattle.places.specs.Places.{size, vectorAt, placeOf}
 use Rattle.places.proofs.Places.{oneToOne}
 use Rattle.sizes.specs.Sizes.{maxInputs}
-use Rattle.vectors.proofs.Digits.{Digits, digit-below, place-set, placed, size-drop, size-end, written, zeros}
+use Rattle.vectors.proofs.Digits.{Digits, digit-most, place-set, placed, size-drop, size-dropped, written, zeros}
 use Rattle.vectors.proofs.vector_at.Statement.{statement}
 use Rattle.vectors.proofs.vector_at.Tie as tie
 
@@ -34,7 +34,7 @@ start axes d p m l h =
       vector = replicate d 0;
       digits = z .0;
       clear = λ j k. getD-replicate d j 0 0 k;
-      place = rw (z .1, size-end us d l) (omega arith);
+      place = rw (z .1, size-dropped us d l) (omega arith);
     }
 
 module _ {axes : List ℕ} {d p : ℕ} {v : List ℕ} {rest i : ℕ} (f : Decoded axes d p v rest i) (t : 0 < i) where
@@ -51,7 +51,7 @@ module _ {axes : List ℕ} {d p : ℕ} {v : List ℕ} {rest i : ℕ} (f : Decode
   axis = getD-take d axes (i - 1) 0 (omega (arith, f .within))
 
   some : 0 < u
-  some = omega (arith, axis, digit-below (f .digits) (i - 1) inside)
+  some = omega (arith, axis, digit-most (f .digits) (i - 1) inside)
 
   more : Decoded axes d p (set v (i - 1) (rest % u)) (rest / u) (i - 1)
   more =

@@ -13,19 +13,19 @@ use lib.ListN.{length, take, drop}
 use Rattle.batches.proofs.OnGrid.{place-on-grid}
 use Rattle.evaluate.specs.Evaluate.{outputOf}
 use Rattle.evaluate.specs.Run.{Ready}
-use Rattle.lanes.specs.Lanes.{OnGrid}
+use Rattle.lanes.specs.Lanes.{VectorOnGrid}
 use Rattle.places.specs.Places.{size, vectorAt}
 use Rattle.plan.specs.Comparison.{outputsDiffer}
 use Rattle.plan.specs.declared.Plan.{Plan}
+use Rattle.plan.specs.declared.Span.{Span}
 use Rattle.plan.proofs.Numbers as plan
 use Rattle.ranges.specs.Search.{first}
 use Rattle.ranges.proofs.Search.{first-here, first-step, first-end}
 use Rattle.sizes.specs.Sizes.{maxInputs}
-use Rattle.spans.specs.declared.Span.{Span}
-use Rattle.vectors.specs.Vectors.{held, Placed}
-use Rattle.vectors.proofs.Held.{held-entry}
+use Rattle.vectors.specs.Vectors.{padded, Placed}
+use Rattle.vectors.proofs.Padded.{padded-entry}
 use Rattle.walk.specs.Walk.{Within}
-use Rattle.walk.proofs.Outputs.{test-held}
+use Rattle.walk.proofs.Outputs.{test-padded}
 use Rattle.walk.proofs.by_places.Statement.{statement}
 use Rattle.walk.proofs.by_places.Tie as tie
 
@@ -35,7 +35,7 @@ record Passed (s₁ s₂ : List ℕ) (g : Plan) (h : Span) (scratch₀ scratch v
   kept : drop (max (g .n1) (g .n2)) scratch ≡ drop (max (g .n1) (g .n2)) scratch₀
   within : p ≤ h .end
   full : length v ≡ maxInputs
-  vector : p < h .end → v ≡ held (vectorAt (take (g .d) (g .axes)) p)
+  vector : p < h .end → v ≡ padded (vectorAt (take (g .d) (g .axes)) p)
   same : first (outputsDiffer s₁ s₂) (h .from) (h .end - h .from) ≡ first (outputsDiffer s₁ s₂) p (h .end - p)
 
 module _
@@ -67,15 +67,15 @@ module _
       placed : Placed (take (g .d) (g .axes)) v
       placed = record { place = p; inside = omega (arith, k .span .inside); shape = k .vector t }
 
-      on-grid : OnGrid s₁ v
+      on-grid : VectorOnGrid s₁ v
       on-grid i h =
-          rw (k .vector t, plan.grid (k .span .planned), held-entry)
+          rw (k .vector t, plan.grid (k .span .planned), padded-entry)
           (place-on-grid s₁ (k .span .planned .files .sound₁) p (omega (arith, ap size (plan.grid (k .span .planned)), k .span .inside)) i h)
 
       -- b is the outcome of the test at this place
       module _ (b : Bool) (tested : b ≡ not (eqb (outputOf s₁ v) (outputOf s₂ v))) where
         test : b ≡ outputsDiffer s₁ s₂ p
-        test = tested ∙ test-held s₁ s₂ v p (k .span .planned .files .same) (k .vector t ∙ ap (λ us. held (vectorAt us p)) (plan.grid (k .span .planned)))
+        test = tested ∙ test-padded s₁ s₂ v p (k .span .planned .files .same) (k .vector t ∙ ap (λ us. padded (vectorAt us p)) (plan.grid (k .span .planned)))
 
         found : b ≡ true → p ≡ first (outputsDiffer s₁ s₂) (r .from) (r .end - r .from)
         found e = sym (k .same ∙ first-here (outputsDiffer s₁ s₂) p (r .end - p) (sym test ∙ e))
@@ -83,7 +83,7 @@ module _
         more :
             (scratch' v' : List ℕ) → b ≡ false → length scratch' ≡ length scratch → drop (max (g .n1) (g .n2)) scratch' ≡ drop (max (g .n1) (g .n2)) scratch →
             length v' ≡ maxInputs →
-            ((q : ℕ) → q + 1 < size (take (g .d) (g .axes)) → v ≡ held (vectorAt (take (g .d) (g .axes)) q) → v' ≡ held (vectorAt (take (g .d) (g .axes)) (q + 1))) →
+            ((q : ℕ) → q + 1 < size (take (g .d) (g .axes)) → v ≡ padded (vectorAt (take (g .d) (g .axes)) q) → v' ≡ padded (vectorAt (take (g .d) (g .axes)) (q + 1))) →
             Passed s₁ s₂ g r scratch₀ scratch' v' (p + 1)
         more scratch' v' e l q w step =
             record {

@@ -4,21 +4,21 @@ use Prim.Native.Nat.{ℕ, _+_, _*_, _/_, _%_, _^_}
 use native.Mathlib.Omega.{arith}
 use native.Mathlib.Nat.{div-add-mod}
 use borrow.Author.Needs.{needs}
-use Rattle.words.proofs.Halves.{product-lt, by-halves}
+use Rattle.words.proofs.Halves.{product-most, by-halves}
 use Rattle.words.proofs.wrapping_mul.Statement.{statement}
 use Rattle.words.proofs.wrapping_mul.Tie as tie
 
 mul-wrapping-add-u64 : tie.Need-mul-wrapping-add-u64
-mul-wrapping-add-u64 c = record { fits = product-lt 32 (omega arith) (omega arith) }
+mul-wrapping-add-u64 c = record { fits = product-most 32 (omega arith) (omega arith) }
 
 mul-wrapping-add-u64-2 : tie.Need-mul-wrapping-add-u64-2
-mul-wrapping-add-u64-2 c = record { fits = product-lt 32 (omega arith) (omega arith) }
+mul-wrapping-add-u64-2 c = record { fits = product-most 32 (omega arith) (omega arith) }
 
 wrapping-add-u64-requires : tie.Need-wrapping-add-u64-requires
 wrapping-add-u64-requires c κs = search needs
 
 mul-wrapping-add-u64-3 : tie.Need-mul-wrapping-add-u64-3
-mul-wrapping-add-u64-3 c = record { fits = product-lt 32 (omega arith) (omega arith) }
+mul-wrapping-add-u64-3 c = record { fits = product-most 32 (omega arith) (omega arith) }
 
 wrapping-add-u64-requires-2 : tie.Need-wrapping-add-u64-requires-2
 wrapping-add-u64-requires-2 c κs = search needs

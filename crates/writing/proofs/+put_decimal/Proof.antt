@@ -8,7 +8,7 @@ use borrow.Author.Needs.{needs}
 use borrow.Fn.Kinds.{In}
 use borrow.Fn.PlainCycle.{Measures, is, falls, and}
 use lib.ListN.{length}
-use Rattle.text.proofs.Decimal.{tens, decimal-last, decimal-more, length-more}
+use Rattle.text.proofs.Decimal.{tens, decimal-last, decimal-step, length-decimal}
 use Rattle.text.proofs.Over.{put-then}
 use Rattle.writing.proofs.put_decimal.Reads as put-decimal
 use Rattle.writing.proofs.put_decimal.Kinds as put-decimal-kinds
@@ -55,13 +55,13 @@ module _ (t : ℕ) where
   put-decimal-requires : put-decimal-lts.Need-put-decimal-requires Calls (put-decimal-at t) put-decimal.Post
   put-decimal-requires c κs =
       let s = c .before .before .before in
-      (omega (arith, tens (s .args .n), s .pre .0), omega (arith, length-more (s .args .n) (omega (arith, c .before .if1 .left)), s .pre .1))
+      (omega (arith, tens (s .args .n), s .pre .0), omega (arith, length-decimal (s .args .n) (omega (arith, c .before .if1 .left)), s .pre .1))
 
   put-byte-requires-2 : put-decimal-lts.Need-put-byte-requires-2 Calls (put-decimal-at t) put-decimal.Post
   put-byte-requires-2 c κs =
       let call = c .before .before .before in
       let s = call .before .before .before .before in
-      omega (arith, length-more (s .args .n) (omega (arith, call .before .before .if1 .left)), s .pre .1, call .put-decimal .ensures .next)
+      omega (arith, length-decimal (s .args .n) (omega (arith, call .before .before .if1 .left)), s .pre .1, call .put-decimal .ensures .next)
 
   same-length-2 : put-decimal-lts.Need-same-length-2 Calls (put-decimal-at t) put-decimal.Post
   same-length-2 c = search needs
@@ -70,7 +70,7 @@ module _ (t : ℕ) where
   returns-2 c =
       let call = c .before .before .before .before .before .before in
       let s = call .before .before .before .before in
-      let more = decimal-more (s .args .n) (omega (arith, call .before .before .if1 .left)) in
+      let more = decimal-step (s .args .n) (omega (arith, call .before .before .if1 .left)) in
       rw more (put-then (rw more at (s .pre .1)) (call .put-decimal .ensures) (c .before .before .put-byte2 .ensures))
 
 pub +put-decimal-spec : {M : Type 1} → statement M

@@ -7,7 +7,7 @@ use native.Mathlib.Omega.{arith}
 use lib.ListN.{length, take, length-set}
 use borrow.Author.Needs.{needs}
 use Rattle.text.specs.Writing.{Put}
-use Rattle.text.proofs.Over.{put-none, put-more, put-all}
+use Rattle.text.proofs.Over.{put-start, put-step, put-end}
 use Rattle.writing.proofs.put_bytes.Statement.{statement}
 use Rattle.writing.proofs.put_bytes.Tie as tie
 
@@ -19,7 +19,7 @@ abbrev μ-loop : tie.MeasureT-loop
 μ-loop text₀ at bytes i₀ text i = length bytes - i
 
 loop-holds : tie.Need-loop-holds Inv-loop μ-loop
-loop-holds c = (omega arith, refl, rw add-zero (put-none _ _))
+loop-holds c = (omega arith, refl, rw add-zero (put-start _ _))
 
 shared-slice-read-text : tie.Need-shared-slice-read-text Inv-loop μ-loop
 shared-slice-read-text c = search needs
@@ -39,7 +39,7 @@ loop-less c = search needs
 loop-again : tie.Need-loop-again Inv-loop μ-loop
 loop-again c =
     let inv = c .before .before .loop .inv in
-    (omega arith, simp length-set (inv .1), put-more _ _ _ _ _ (c .before .before .before .pre) (omega arith) (inv .2))
+    (omega arith, simp length-set (inv .1), put-step _ _ _ _ _ (c .before .before .before .pre) (omega arith) (inv .2))
 
 add-result : tie.Need-add-result Inv-loop μ-loop
 add-result c = search needs
@@ -48,7 +48,7 @@ same-length : tie.Need-same-length Inv-loop μ-loop
 same-length c = search needs
 
 returns : tie.Need-returns Inv-loop μ-loop
-returns c = put-all _ _ _ _ _ _ (c .loop-test .left) (c .before .loop .inv .2)
+returns c = put-end _ _ _ _ _ _ (c .loop-test .left) (c .before .loop .inv .2)
 
 pub put-bytes-spec : {M : Type 1} → statement M
 put-bytes-spec =

@@ -3,7 +3,7 @@ use mathlib.Core.List.{_++_}
 use borrow.Author.Needs.{needs}
 use denote.Ref.{now}
 use Rattle.text.specs.Text.{line, spaced}
-use Rattle.text.specs.Writing.{Room}
+use Rattle.text.specs.Writing.{RoomFor}
 use Rattle.text.proofs.Over.{room-first, room-second, put-then}
 use Rattle.text.proofs.Spaced.{line-halves}
 use Rattle.writing.proofs.put_halves.Statement.{statement}
@@ -13,7 +13,7 @@ use Rattle.writing.proofs.put_halves.Tie as tie
 room :
     (s : tie.Start) →
     let a = s .args in
-    Room (now (a .word) ++ spaced (now (a .ns)) ++ now (a .sign) ++ line (spaced (now (a .ms)))) (now (a .text)) (a .at)
+    RoomFor (now (a .word) ++ spaced (now (a .ns)) ++ now (a .sign) ++ line (spaced (now (a .ms)))) (now (a .text)) (a .at)
 room s = rw line-halves at (s .pre)
 
 put-words-requires : tie.Need-put-words-requires

@@ -9,8 +9,8 @@ use lib.ListN.{length, take}
 use lib.Seq.{take-all}
 use Rattle.text.specs.Text.{spaced}
 use Rattle.text.specs.Writing.{Put}
-use Rattle.text.proofs.Over.{room-second, put-none, put-then}
-use Rattle.text.proofs.Spaced.{spaced-more, spaced-room}
+use Rattle.text.proofs.Over.{room-second, put-start, put-then}
+use Rattle.text.proofs.Spaced.{spaced-step, spaced-room}
 use Rattle.writing.proofs.put_numbers.Statement.{statement}
 use Rattle.writing.proofs.put_numbers.Tie as tie
 
@@ -23,7 +23,7 @@ abbrev μ-loop : tie.MeasureT-loop
 
 loop-holds : tie.Need-loop-holds Inv-loop μ-loop
 unfolding spaced
-loop-holds c = (omega arith, refl, put-none _ _)
+loop-holds c = (omega arith, refl, put-start _ _)
 
 mul-put-number : tie.Need-mul-put-number Inv-loop μ-loop
 mul-put-number c = search needs
@@ -51,7 +51,7 @@ loop-again c =
     let inv = turn .loop .inv in (
       omega arith,
       search needs,
-      rw (spaced-more (now (s .args .ns)) i (omega arith))
+      rw (spaced-step (now (s .args .ns)) i (omega arith))
           (put-then (spaced-room (now (s .args .ns)) i (omega arith) (s .pre)) (inv .2) (c .before .before .put-number .ensures)),
     )
 

@@ -1,18 +1,17 @@
--- `grid_lines::save_outputs` meets its contract. The loop's invariant: the rows hold the values at t - 1, and the saved rows show the outputs below t.
+-- `line_outputs::save_outputs` meets its contract. The loop's invariant: the rows hold the values at t - 1, and the saved rows show the outputs below t.
 -- Assumes nothing.
 use mathlib.Core.List.{List}
 use mathlib.Core.Path.{_≡_, refl, _∙_}
 use Prim.Native.Nat.{ℕ, _-_, _≤_}
 use native.Mathlib.Omega.{arith}
-use borrow.Author.Needs.{needs}
 use lib.ListN.{length}
-use Rattle.batches.proofs.OnGrid.{axis-within}
+use Rattle.plan.proofs.Axes.{file-axis-most}
 use Rattle.lanes.proofs.Stepped.{width-most}
 use Rattle.rows.proofs.Writing.{before-row}
-use Rattle.grid_lines.specs.declared.Along.{Along}
-use Rattle.grid_lines.proofs.Lines.{Walked, SavedTo, walk-none, walk-grid, walk-more, save-more}
-use Rattle.grid_lines.proofs.save_outputs.Statement.{statement}
-use Rattle.grid_lines.proofs.save_outputs.Tie as tie
+use Rattle.line_outputs.specs.declared.Along.{Along}
+use Rattle.line_outputs.proofs.AlongLines.{Walked, SavedTo, walk-start, walk-grid, walk-step, save-step}
+use Rattle.line_outputs.proofs.save_outputs.Statement.{statement}
+use Rattle.line_outputs.proofs.save_outputs.Tie as tie
 
 record Saving (a : Along) (s inputs₀ before saved₀ rows inputs saved : List ℕ) (t : ℕ) : Type 0 where
   walked : Walked a s inputs₀ before rows inputs t
@@ -43,7 +42,7 @@ loop-holds : tie.Need-loop-holds Inv-loop μ-loop
 loop-holds c =
     let q = c .before .before .before .before .before .pre in
     record {
-      walked = walk-none _ _ _ _ (q .1 .0 .onGrid);
+      walked = walk-start _ _ _ _ (q .1 .0 .onGrid);
       longSaved = refl;
       within = omega arith;
       outputs = λ l x g f h. absurd (omega arith);
@@ -95,7 +94,7 @@ add-value : tie.Need-add-value Inv-loop μ-loop
 add-value c =
     let f = filled (run (c .before .before)) in
     let q = entry (head f) .pre in
-    omega (arith, f .before .before .loop-test .taken, q .1 .0 .axis, axis-within _ (q .0 .sound) (entry (head f) .args .along .d - 1))
+    omega (arith, f .before .before .loop-test .taken, q .1 .0 .axis, file-axis-most _ (q .0 .sound) (entry (head f) .args .along .d - 1))
 
 loop-less : tie.Need-loop-less Inv-loop μ-loop
 loop-less c = omega (arith, filled (run (c .before .before)) .before .before .loop-test .taken)
@@ -110,12 +109,12 @@ loop-again c =
     let below = f .before .before .loop-test .taken in
     record {
       walked =
-          walk-more (q .1 .0) (q .0 .sound) (inv .walked) below (f .fill-row .ensures) (r .refresh .last .1 .1 .1 .0) (r .refresh .ensures) (f .fill-row .kept .0)
+          walk-step (q .1 .0) (q .0 .sound) (inv .walked) below (f .fill-row .ensures) (r .refresh .last .1 .1 .1 .0) (r .refresh .ensures) (f .fill-row .kept .0)
           (r .refresh .kept .1 .1 .1 .0);
       longSaved = copy .copy-row .kept .1 .1 .0 ∙ inv .longSaved;
       within = omega (arith, below);
       outputs =
-          save-more (q .1 .0) (q .0 .sound) (inv .walked) below (f .fill-row .ensures) (r .refresh .last .1 .1 .1 .0) (r .refresh .ensures) (head f .loop .saved) _ (q .0 .count)
+          save-step (q .1 .0) (q .0 .sound) (inv .walked) below (f .fill-row .ensures) (r .refresh .last .1 .1 .1 .0) (r .refresh .ensures) (head f .loop .saved) _ (q .0 .count)
           (inv .outputs) (copy .copy-row .ensures);
     }
 

@@ -1,4 +1,4 @@
--- `spans::agreed_lines` meets its contract. The loop's invariant: the outputs agree at every place of the lines from the first of the span to before r.
+-- `line_groups::agreed_lines` meets its contract. The loop's invariant: the outputs agree at every place of the lines from the first of the span to before r.
 -- Assumes nothing.
 use mathlib.Core.Bool.{false, not}
 use mathlib.Core.List.{List}
@@ -7,7 +7,6 @@ use Prim.Native.Nat.{ℕ, _+_, _*_, _-_, _/_, _^_, _≤_, _<_, max}
 use native.Mathlib.Decide.{decLt}
 use native.Mathlib.Nat.{div-lt-iff-lt-mul, le-div-iff-mul-le, le-of-mul-le-mul-right, le-trans, le-max-left, le-max-right, le-mul-of-pos-right, mul-le-mul-right}
 use native.Mathlib.Omega.{arith}
-use borrow.Author.Needs.{needs}
 use borrow.Author.Tests.{eq-eqb}
 use denote.Ref.{now}
 use lib.ListN.{length, getD, take, drop}
@@ -22,16 +21,17 @@ use Rattle.lanes.proofs.Stepped.{width-most, width-least}
 use Rattle.lists.proofs.Lists.{drop-later}
 use Rattle.plan.specs.Comparison.{outputsDiffer}
 use Rattle.plan.specs.declared.Plan.{Plan}
-use Rattle.plan.proofs.Axes.{grid-some}
+use Rattle.plan.proofs.Axes.{file-grid-least}
 use Rattle.plan.proofs.Numbers as plan
 use Rattle.places.specs.Places.{size, vectorAt}
 use Rattle.rows.specs.Rows.{maxLanes, lane}
 use Rattle.sizes.specs.Sizes.{maxInputs}
-use Rattle.grid_lines.specs.Block.{lastAxis, Front}
+use Rattle.grid_lines.specs.Lines.{lastAxis}
 use Rattle.grid_lines.proofs.Lines.{axis-at}
-use Rattle.spans.proofs.GridLines.{size-lines, axis-pos, front-below, front-end, line-front, line-last}
-use Rattle.spans.proofs.agreed_lines.Statement.{statement}
-use Rattle.spans.proofs.agreed_lines.Tie as tie
+use Rattle.line_outputs.specs.AlongLines.{Front}
+use Rattle.line_groups.proofs.GridLines.{size-lines, last-axis-least, front-most, front-last, line-front, line-last}
+use Rattle.line_groups.proofs.agreed_lines.Statement.{statement}
+use Rattle.line_groups.proofs.agreed_lines.Tie as tie
 
 record Passed (v : Shape) (s₁ s₂ : List ℕ) (g : Plan) (from stop : ℕ) (rows₁₀ rows₂₀ rows₁ rows₂ inputs : List ℕ) (r : ℕ) : Type 0 where
   prepared : Prepared v s₁ s₂ g rows₁ rows₂
@@ -63,12 +63,12 @@ module _
     some : 1 ≤ d
     some = omega (arith, plan.inputs (k .prepared .planned), k .prepared .planned .files .sound₁ .inputsLow)
 
-    last-pos : 0 < u
+    last-least : 0 < u
     unfolding gridSize
-    last-pos = axis-pos axes d some (k .enough) 0 (rw (plan.grid (k .prepared .planned)) (grid-some s₁ (k .prepared .planned .files .sound₁)))
+    last-least = last-axis-least axes d some (k .enough) 0 (rw (plan.grid (k .prepared .planned)) (file-grid-least s₁ (k .prepared .planned .files .sound₁)))
 
     stop-fits : stop < 2 ^ 64
-    stop-fits = omega (arith, le-mul-of-pos-right stop last-pos, k .inside, plan.places-fit (k .prepared .planned))
+    stop-fits = omega (arith, le-mul-of-pos-right stop last-least, k .inside, plan.places-fit (k .prepared .planned))
 
     module _ (t : w ≤ stop - r) where
       block : (r + w) * u ≤ size (take d axes)
@@ -77,7 +77,7 @@ module _
           le-trans (mul-le-mul-right u within) (k .inside)
 
       rows-left : r + w ≤ size (take (d - 1) axes)
-      rows-left = le-of-mul-le-mul-right (rw (size-lines axes d some (k .enough)) at block) last-pos
+      rows-left = le-of-mul-le-mul-right (rw (size-lines axes d some (k .enough)) at block) last-least
 
       -- the lanes set to the rows of the grid from r on, with 0 for the last input, are on the grid
       on-grid : (before inputs' : List ℕ) → LanesSet w (take (d - 1) axes) r w before inputs' → LanesOnGrid w s₁ inputs'
@@ -86,11 +86,11 @@ module _
           let axis = axis-at (k .prepared .planned) i (omega (arith, h, plan.inputs (k .prepared .planned))) in
           let at = wr .set i l (omega (arith, h, k .prepared .planned .files .sound₁ .inputsHigh)) t in
           elim (decLt i (d - 1)) [
-            | yes front ↦ omega (arith, at, axis, front-below axes d some (k .enough) (r + l) line i front)
+            | yes front ↦ omega (arith, at, axis, front-most axes d some (k .enough) (r + l) line i front)
             | no end ↦
                 let last : i ≡ d - 1 = omega (arith, h, plan.inputs (k .prepared .planned)) in
-                let zero : getD (vectorAt (take (d - 1) axes) (r + l)) i 0 ≡ 0 = rw last (front-end axes d some (k .enough) (r + l) line) in
-                let pos : 0 < getD axes i 0 = rw last last-pos in
+                let zero : getD (vectorAt (take (d - 1) axes) (r + l)) i 0 ≡ 0 = rw last (front-last axes d some (k .enough) (r + l) line) in
+                let pos : 0 < getD axes i 0 = rw last last-least in
                 omega (arith, at, axis)
           ]
 
@@ -104,8 +104,8 @@ module _
           place p low high =
               let part : r + a ≤ r + w = omega arith in
               let h : p < size (take d axes) = omega (arith, block, mul-le-mul-right u part) in
-              let above : r ≤ p / u = le-div-iff-mul-le last-pos .1 low in
-              let below : p / u < r + a = div-lt-iff-lt-mul last-pos .1 high in
+              let above : r ≤ p / u = le-div-iff-mul-le last-least .1 low in
+              let below : p / u < r + a = div-lt-iff-lt-mul last-least .1 high in
               let l : p / u - r < a = omega arith in
               let e : r + (p / u - r) ≡ p / u = omega arith in
               let front : Front w d inputs' (p / u - r) (vectorAt (take d axes) p) =

@@ -1,17 +1,16 @@
--- `grid_lines::matching_lanes` meets its contract. The loop's invariant: the rows hold the values at t - 1, and in the matching lanes the saved rows show
+-- `line_outputs::matching_lanes` meets its contract. The loop's invariant: the rows hold the values at t - 1, and in the matching lanes the saved rows show
 -- the outputs below t.
 -- Assumes nothing.
 use mathlib.Core.List.{List}
 use mathlib.Core.Path.{_∙_}
 use Prim.Native.Nat.{ℕ, _-_, _≤_}
 use native.Mathlib.Omega.{arith}
-use borrow.Author.Needs.{needs}
-use Rattle.batches.proofs.OnGrid.{axis-within}
+use Rattle.plan.proofs.Axes.{file-axis-most}
 use Rattle.rows.proofs.Writing.{before-row}
-use Rattle.grid_lines.specs.declared.Along.{Along}
-use Rattle.grid_lines.proofs.Lines.{Walked, SavedTo, walk-none, walk-grid, walk-more, match-more}
-use Rattle.grid_lines.proofs.matching_lanes.Statement.{statement}
-use Rattle.grid_lines.proofs.matching_lanes.Tie as tie
+use Rattle.line_outputs.specs.declared.Along.{Along}
+use Rattle.line_outputs.proofs.AlongLines.{Walked, SavedTo, walk-start, walk-grid, walk-step, match-step}
+use Rattle.line_outputs.proofs.matching_lanes.Statement.{statement}
+use Rattle.line_outputs.proofs.matching_lanes.Tie as tie
 
 record Matched (a : Along) (s inputs₀ before rows inputs saved : List ℕ) (r t : ℕ) : Type 0 where
   walked : Walked a s inputs₀ before rows inputs t
@@ -45,7 +44,7 @@ loop-holds : tie.Need-loop-holds Inv-loop μ-loop
 loop-holds c =
     let q = c .before .before .before .before .before .before .pre in
     record {
-      walked = walk-none _ _ _ _ (q .1 .0 .onGrid);
+      walked = walk-start _ _ _ _ (q .1 .0 .onGrid);
       within = omega arith;
       few = omega arith;
       shown = λ l x g f h. absurd (omega arith);
@@ -111,7 +110,7 @@ add-at : tie.Need-add-at Inv-loop μ-loop
 add-at c =
     let f = filled (run (c .before)) in
     let q = entry (head f) .pre in
-    omega (arith, f .before .before .loop-test .taken, q .1 .0 .axis, axis-within _ (q .0 .sound) (entry (head f) .args .along .d - 1))
+    omega (arith, f .before .before .loop-test .taken, q .1 .0 .axis, file-axis-most _ (q .0 .sound) (entry (head f) .args .along .d - 1))
 
 loop-less : tie.Need-loop-less Inv-loop μ-loop
 loop-less c = omega (arith, filled (run (c .before)) .before .before .loop-test .taken)
@@ -124,11 +123,11 @@ loop-again c =
     let inv = head f .loop .inv in
     let below = f .before .before .loop-test .taken in
     let next =
-    match-more (q .1 .0) (q .0 .sound) (inv .walked) below (f .fill-row .ensures) (r .refresh .last .1 .1 .1 .0) (r .refresh .ensures) _ _ _ _ (q .0 .count) (head f .before .output-length .ensures) (inv .few)
+    match-step (q .1 .0) (q .0 .sound) (inv .walked) below (f .fill-row .ensures) (r .refresh .last .1 .1 .1 .0) (r .refresh .ensures) _ _ _ _ (q .0 .count) (head f .before .output-length .ensures) (inv .few)
     (inv .shown) (c .before .first-unequal .ensures) in
     record {
       walked =
-          walk-more (q .1 .0) (q .0 .sound) (inv .walked) below (f .fill-row .ensures) (r .refresh .last .1 .1 .1 .0) (r .refresh .ensures) (f .fill-row .kept .0)
+          walk-step (q .1 .0) (q .0 .sound) (inv .walked) below (f .fill-row .ensures) (r .refresh .last .1 .1 .1 .0) (r .refresh .ensures) (f .fill-row .kept .0)
           (r .refresh .kept .1 .1 .1 .0);
       within = omega (arith, below);
       few = omega (arith, next .0, inv .few);

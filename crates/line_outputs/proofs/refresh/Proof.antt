@@ -1,9 +1,9 @@
--- `grid_lines::refresh` meets its contract: at the first place what `run_all` promises, at a later one what `run_listed` does.
+-- `line_outputs::refresh` meets its contract: at the first place what `run_all` promises, at a later one what `run_listed` does.
 -- Assumes nothing.
 use native.Mathlib.Omega.{arith}
 use borrow.Author.Needs.{needs}
-use Rattle.grid_lines.proofs.refresh.Statement.{statement}
-use Rattle.grid_lines.proofs.refresh.Tie as tie
+use Rattle.line_outputs.proofs.refresh.Statement.{statement}
+use Rattle.line_outputs.proofs.refresh.Tie as tie
 
 run-all-requires : tie.Need-run-all-requires
 run-all-requires c κs = search needs

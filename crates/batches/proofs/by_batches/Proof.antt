@@ -80,9 +80,22 @@ Inv-loop file1 file2 plan shape from end rows1₀ rows2₀ inputs₀ wide p₀ r
 abbrev μ-loop : tie.MeasureT-loop
 μ-loop file1 file2 plan shape from end rows1₀ rows2₀ inputs₀ wide p₀ rows1 rows2 inputs p = end - p
 
-batch : (c : tie.Joined1 Inv-loop μ-loop) → Batch (c .before .before .before .before .before .before .before .args .shape .w) (c .before .before .loop .p) (c .before .before .before .before .before .before .before .args .end) (c .if1 .live)
+-- the places: the entry, the loop's head, the count of live lanes, and the call that runs a batch
+abbrev entry : tie.At-loop Inv-loop μ-loop → tie.Start Inv-loop μ-loop
+entry c = c .before .before .before .before .before
+
+abbrev head : tie.Joined1 Inv-loop μ-loop → tie.At-loop Inv-loop μ-loop
+head c = c .before .before
+
+abbrev joined : tie.After-first-in-batch Inv-loop μ-loop → tie.Joined1 Inv-loop μ-loop
+joined c = c .before .before .before .before
+
+abbrev call : tie.After-slice-known4 Inv-loop μ-loop → tie.After-first-in-batch Inv-loop μ-loop
+call c = c .before .before .before .before .before
+
+batch : (c : tie.Joined1 Inv-loop μ-loop) → Batch (entry (head c) .args .shape .w) (head c .loop .p) (entry (head c) .args .end) (c .if1 .live)
 batch c =
-    let least = width-least (c .before .before .loop .inv .prepared .width) in
+    let least = width-least (head c .loop .inv .prepared .width) in
     ⊎-elim
     (λ came. let t = c .before .loop-test .taken in record { some = omega (arith, came .1, t); room = omega (arith, came .0 .taken, came .1); part = omega (arith, came .1, t) })
     (λ came. record { some = omega (arith, came .1); room = omega (arith, came .1); part = omega (arith, came .0 .left, came .1) })
@@ -111,31 +124,34 @@ first-in-batch-requires c κs =
     )
 
 add-p : tie.Need-add-p Inv-loop μ-loop
-add-p c = omega (arith, short (c .before .before .before .before .before .before .before .before .before .before .before .loop .inv) _ (batch (c .before .before .before .before .before .before .before .before .before)) (c .before .before .before .before .before .first-in-batch .ensures .found))
+add-p c = let j = joined (call c) in omega (arith, short (head j .loop .inv) _ (batch j) (call c .first-in-batch .ensures .found))
 
 same-length : tie.Need-same-length Inv-loop μ-loop
-same-length c = c .before .before .before .before .before .before .first-in-batch .kept .1 .1 .1 .1 .1 .1 .1 .0 ∙ c .before .before .before .before .before .before .before .before .before .before .before .before .loop .inv .long₁
+same-length c = let b = call (c .before) in b .first-in-batch .kept .1 .1 .1 .1 .1 .1 .1 .0 ∙ head (joined b) .loop .inv .long₁
 
 same-length-2 : tie.Need-same-length-2 Inv-loop μ-loop
-same-length-2 c = c .before .before .before .before .before .before .first-in-batch .kept .1 .1 .1 .1 .1 .1 .1 .1 .0 ∙ c .before .before .before .before .before .before .before .before .before .before .before .before .loop .inv .long₂
+same-length-2 c = let b = call (c .before) in b .first-in-batch .kept .1 .1 .1 .1 .1 .1 .1 .1 .0 ∙ head (joined b) .loop .inv .long₂
 
 returns : tie.Need-returns Inv-loop μ-loop
-returns c = found (c .before .before .before .before .before .before .before .before .before .before .before .before .loop .inv) _ (batch (c .before .before .before .before .before .before .before .before .before .before)) (c .before .before .before .before .before .before .first-in-batch .ensures .found) (c .if2 .taken)
+returns c = let b = call (c .before) in found (head (joined b) .loop .inv) _ (batch (joined b)) (b .first-in-batch .ensures .found) (c .if2 .taken)
 
 loop-less : tie.Need-loop-less Inv-loop μ-loop
 loop-less c =
+    let b = call (c .before) in
+    let j = joined b in
     omega (
       arith,
-      c .before .before .before .before .before .before .before .before .before .before .before .loop-test .taken,
-      batch (c .before .before .before .before .before .before .before .before .before .before) .some,
+      j .before .loop-test .taken,
+      batch j .some,
       c .if2 .left,
-      short (c .before .before .before .before .before .before .before .before .before .before .before .before .loop .inv) _ (batch (c .before .before .before .before .before .before .before .before .before .before)) (c .before .before .before .before .before .before .first-in-batch .ensures .found),
+      short (head j .loop .inv) _ (batch j) (b .first-in-batch .ensures .found),
     )
 
 loop-again : tie.Need-loop-again Inv-loop μ-loop
 loop-again c =
-    let called = c .before .before .before .before .before .before .first-in-batch in
-    more (c .before .before .before .before .before .before .before .before .before .before .before .before .loop .inv) _ (batch (c .before .before .before .before .before .before .before .before .before .before)) (called .ensures .found) _ _ _ (called .kept .1 .1 .1 .1 .1 .1 .1 .0)
+    let b = call (c .before) in
+    let called = b .first-in-batch in
+    more (head (joined b) .loop .inv) _ (batch (joined b)) (called .ensures .found) _ _ _ (called .kept .1 .1 .1 .1 .1 .1 .1 .0)
     (called .kept .1 .1 .1 .1 .1 .1 .1 .1 .0) (called .kept .1 .1 .1 .1 .1 .1 .0) (called .ensures .onGrid) (c .if2 .left)
 
 same-length-3 : tie.Need-same-length-3 Inv-loop μ-loop

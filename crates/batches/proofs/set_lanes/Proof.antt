@@ -69,16 +69,18 @@ set-column-requires c κs = search needs
 
 loop-holds : tie.Need-loop-holds Inv-loop μ-loop
 loop-holds c =
-    let q = c .before .before .before .before .before .before .pre in
+    let entry = c .before .before .before .before .before .before in
+    let q = entry .pre in
     let set = c .before .before .set-column .ensures in
-    start _ _ _ _ _ _ _ refl (q .1 .few) (now (c .before .before .before .before .before .before .args .inputs)) (q .1 .some)
+    start _ _ _ _ _ _ _ refl (q .1 .few) (now (entry .args .inputs)) (q .1 .some)
     (c .before .before .before .before .vector-at .ensures) (set .set) (set .others) (λ i k hl hk. refl)
 
 next-vector-requires : tie.Need-next-vector-requires Inv-loop μ-loop
 next-vector-requires c κs =
-    let q = c .before .before .before .before .before .before .before .before .pre in
+    let entry = c .before .before .before .before .before .before .before .before in
+    let q = entry .pre in
     let k = c .before .loop .inv in
-    let p = c .before .before .before .before .before .before .before .before .args .p in
+    let p = entry .args .p in
     (q .0, record { place = p + (c .before .loop .l - 1); inside = omega (arith, q .1 .inside, k .within, k .some); shape = k .vector })
 
 set-column-requires-2 : tie.Need-set-column-requires-2 Inv-loop μ-loop
@@ -97,13 +99,15 @@ loop-less c = search needs
 
 loop-again : tie.Need-loop-again Inv-loop μ-loop
 loop-again c =
-    let q = c .before .before .before .before .before .before .before .before .before .before .before .before .before .pre in
-    let k = c .before .before .before .before .before .before .loop .inv in
+    let head = c .before .before .before .before .before .before in
+    let entry = head .before .before .before .before .before .before .before in
+    let q = entry .pre in
+    let k = head .loop .inv in
     let set = c .before .before .set-column2 in
     let t = c .before .before .before .before .before .loop-test .taken in
-    let p = c .before .before .before .before .before .before .before .before .before .before .before .before .before .args .p in
-    let l = c .before .before .before .before .before .before .loop .l in
-    more _ _ _ _ _ _ _ (set .kept .0 ∙ k .long) (q .1 .few) (c .before .before .before .before .before .before .loop .inputs) l (p + (l - 1) + 1) t
+    let p = entry .args .p in
+    let l = head .loop .l in
+    more _ _ _ _ _ _ _ (set .kept .0 ∙ k .long) (q .1 .few) (head .loop .inputs) l (p + (l - 1) + 1) t
     (c .before .before .before .before .next-vector .ensures (p + (l - 1)) (omega (arith, q .1 .inside, t, k .some)) (k .vector)) (omega (arith, k .some))
     (set .ensures .set) (set .ensures .others) (k .columns)
     (λ i j hl hj. set .ensures .others i j hj (λ same. omega (arith, hl, same)) ∙ k .others i j (omega (arith, hl)) hj)

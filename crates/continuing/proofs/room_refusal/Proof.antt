@@ -20,8 +20,9 @@ refused-by-requires c κs = search needs
 
 returns : tie.Need-returns
 returns c =
-    let a = c .before .before .before .before .before .args in
-    let k = c .before .before .before .before .before .pre in
+    let entry = c .before .before .before .before .before in
+    let a = entry .args in
+    let k = entry .pre in
     let n = c .before .before .larger .ensures ∙ ap₂ max (plan.count₁ k) (plan.count₂ k) in
     c .refused-by .ensures ∙ rw (lt-ltb (a .room) (largerCount (now (a .file1)) (now (a .file2))) (omega (arith, c .before .if1 .taken, n)))
 
@@ -33,8 +34,9 @@ state-refusal-requires c κs = search needs
 
 returns-2 : tie.Need-returns-2
 returns-2 c =
-    let a = c .before .before .before .before .before .before .args in
-    let k = c .before .before .before .before .before .before .pre in
+    let entry = c .before .before .before .before .before .before in
+    let a = entry .args in
+    let k = entry .pre in
     let n = c .before .before .before .larger .ensures ∙ ap₂ max (plan.count₁ k) (plan.count₂ k) in
     c .state-refusal .ensures
     ∙ ap₂ (λ w G. stateRefusal w G (a .session)) (c .before .read-sizes .ensures) (plan.vectors k)

@@ -21,6 +21,15 @@ judged :
 unfolding stateRefusal
 judged z G σ mark m c same e p q = rw (same, e, p, q)
 
+-- the entry, from where the sizes have been found the same
+abbrev entry : tie.Else1 → tie.Start
+entry e = e .before .before .before
+
+decided :
+    (e : tie.Else1) (mark : Mark) (m c : Bool) → entry e .args .session .mark ≡ mark → misplaced (entry e .args .size) (entry e .args .session .position) mark ≡ m →
+    isClosed mark ≡ c → cond m (refusedBy 102) (cond c (refusedBy 103) (refusedBy 0)) ≡ stateRefusal (entry e .args .sizes) (entry e .args .size) (entry e .args .session)
+decided e mark m c = judged _ _ _ mark m c (sym (e .before .same-sizes .ensures) ∙ not-false _ (e .if1 .left))
+
 same-sizes-requires : tie.Need-same-sizes-requires
 same-sizes-requires c κs = search needs
 
@@ -65,37 +74,37 @@ returns-2 : tie.Need-returns-2
 unfolding misplaced isClosed
 returns-2 c =
     c .refused-by2 .ensures
-    ∙ judged _ _ (c .before .before .before .before .before .before .before .args .session) Open false false (sym (c .before .before .before .before .before .same-sizes .ensures) ∙ not-false _ (c .before .before .before .before .if1 .left)) (c .before .before .enum-told .given .1) (ap not (lt-ltb _ _ (c .before .if2 .taken))) refl
+    ∙ decided (c .before .before .before .before) Open false false (c .before .before .enum-told .given .1) (ap not (lt-ltb _ _ (c .before .if2 .taken))) refl
 
 returns-3 : tie.Need-returns-3
 unfolding misplaced isClosed
 returns-3 c =
     c .refused-by3 .ensures
-    ∙ judged _ _ (c .before .before .before .before .before .before .before .args .session) Open true false (sym (c .before .before .before .before .before .same-sizes .ensures) ∙ not-false _ (c .before .before .before .before .if1 .left)) (c .before .before .enum-told .given .1) (ap not (le-ltb _ _ (c .before .if2 .left))) refl
+    ∙ decided (c .before .before .before .before) Open true false (c .before .before .enum-told .given .1) (ap not (le-ltb _ _ (c .before .if2 .left))) refl
 
 returns-4 : tie.Need-returns-4
 unfolding misplaced isClosed
 returns-4 c =
     c .refused-by4 .ensures
-    ∙ judged _ _ (c .before .before .before .before .before .before .before .args .session) Equal false true (sym (c .before .before .before .before .before .same-sizes .ensures) ∙ not-false _ (c .before .before .before .before .if1 .left)) (c .before .before .enum-told2 .given .1) (ap not (eq-eqb _ _ (c .before .if3 .taken))) refl
+    ∙ decided (c .before .before .before .before) Equal false true (c .before .before .enum-told2 .given .1) (ap not (eq-eqb _ _ (c .before .if3 .taken))) refl
 
 returns-5 : tie.Need-returns-5
 unfolding misplaced isClosed
 returns-5 c =
     c .refused-by5 .ensures
-    ∙ judged _ _ (c .before .before .before .before .before .before .before .args .session) Equal true true (sym (c .before .before .before .before .before .same-sizes .ensures) ∙ not-false _ (c .before .before .before .before .if1 .left)) (c .before .before .enum-told2 .given .1) (ap not (ne-eqb _ _ (c .before .if3 .left))) refl
+    ∙ decided (c .before .before .before .before) Equal true true (c .before .before .enum-told2 .given .1) (ap not (ne-eqb _ _ (c .before .if3 .left))) refl
 
 returns-6 : tie.Need-returns-6
 unfolding misplaced isClosed
 returns-6 c =
     c .refused-by6 .ensures
-    ∙ judged _ _ (c .before .before .before .before .before .before .before .before .args .session) Differ false true (sym (c .before .before .before .before .before .before .same-sizes .ensures) ∙ not-false _ (c .before .before .before .before .before .if1 .left)) (c .before .before .before .enum-told3 .given .1) (ap not (sym (c .before .before .within .ensures) ∙ c .before .if4 .taken)) refl
+    ∙ decided (c .before .before .before .before .before) Differ false true (c .before .before .before .enum-told3 .given .1) (ap not (sym (c .before .before .within .ensures) ∙ c .before .if4 .taken)) refl
 
 returns-7 : tie.Need-returns-7
 unfolding misplaced isClosed
 returns-7 c =
     c .refused-by7 .ensures
-    ∙ judged _ _ (c .before .before .before .before .before .before .before .before .args .session) Differ true true (sym (c .before .before .before .before .before .before .same-sizes .ensures) ∙ not-false _ (c .before .before .before .before .before .if1 .left)) (c .before .before .before .enum-told3 .given .1) (ap not (sym (c .before .before .within .ensures) ∙ c .before .if4 .left)) refl
+    ∙ decided (c .before .before .before .before .before) Differ true true (c .before .before .before .enum-told3 .given .1) (ap not (sym (c .before .before .within .ensures) ∙ c .before .if4 .left)) refl
 
 pub state-refusal-spec : {M : Type 1} → statement M
 state-refusal-spec =

@@ -41,7 +41,9 @@ add-end : tie.Need-add-end
 add-end c = search needs
 
 by-places-requires : tie.Need-by-places-requires
-by-places-requires c κs = within (c .before .before .before .before .before .before .pre .0) _ _ _ (c .before .before .before .before .before .before .pre .1 .0) (c .before .before .before .before .before .before .pre .1 .1) (c .before .before .if1 .left)
+by-places-requires c κs =
+    let entry = c .before .before .before .before .before .before in
+    within (entry .pre .0) _ _ _ (entry .pre .1 .0) (entry .pre .1 .1) (c .before .before .if1 .left)
 
 same-length : tie.Need-same-length
 same-length c = search needs
@@ -53,7 +55,9 @@ larger-requires : tie.Need-larger-requires
 larger-requires c κs = search needs
 
 in-short-lanes-requires : tie.Need-in-short-lanes-requires
-in-short-lanes-requires c κs = (within (c .before .before .before .before .before .before .before .before .pre .0) _ _ _ (c .before .before .before .before .before .before .before .before .pre .1 .0) (c .before .before .before .before .before .before .before .before .pre .1 .1) (c .before .before .before .before .if1 .left), both _ _ _ _ (c .before .before .larger .ensures) (c .before .if3 .taken))
+in-short-lanes-requires c κs =
+    let entry = c .before .before .before .before .before .before .before .before in
+    (within (entry .pre .0) _ _ _ (entry .pre .1 .0) (entry .pre .1 .1) (c .before .before .before .before .if1 .left), both _ _ _ _ (c .before .before .larger .ensures) (c .before .if3 .taken))
 
 same-length-2 : tie.Need-same-length-2
 same-length-2 c = search needs
@@ -62,7 +66,9 @@ returns-3 : tie.Need-returns-3
 returns-3 c = search needs
 
 in-middle-lanes-requires : tie.Need-in-middle-lanes-requires
-in-middle-lanes-requires c κs = (within (c .before .before .before .before .before .before .before .before .before .pre .0) _ _ _ (c .before .before .before .before .before .before .before .before .before .pre .1 .0) (c .before .before .before .before .before .before .before .before .before .pre .1 .1) (c .before .before .before .before .before .if1 .left), both _ _ _ _ (c .before .before .before .larger .ensures) (c .before .if4 .taken))
+in-middle-lanes-requires c κs =
+    let entry = c .before .before .before .before .before .before .before .before .before in
+    (within (entry .pre .0) _ _ _ (entry .pre .1 .0) (entry .pre .1 .1) (c .before .before .before .before .before .if1 .left), both _ _ _ _ (c .before .before .before .larger .ensures) (c .before .if4 .taken))
 
 same-length-3 : tie.Need-same-length-3
 same-length-3 c = search needs
@@ -75,12 +81,12 @@ mul-if5 c = search needs
 
 in-long-lanes-requires : tie.Need-in-long-lanes-requires
 in-long-lanes-requires c κs =
-    let e = c .before .before .before .before .before .before .before .before .before .before in (
-      within (c .before .before .before .before .before .before .before .before .before .before .pre .0) _ _ _ (c .before .before .before .before .before .before .before .before .before .before .pre .1 .0) (c .before .before .before .before .before .before .before .before .before .before .pre .1 .1) (c .before .before .before .before .before .before .if1 .left),
+    let entry = c .before .before .before .before .before .before .before .before .before .before in (
+      within (entry .pre .0) _ _ _ (entry .pre .1 .0) (entry .pre .1 .1) (c .before .before .before .before .before .before .if1 .left),
       (
         inl refl,
-        omega (arith, c .before .if5 .taken, c .before .before .before .before .larger .ensures, le-max-left (e .args .plan .n1) (e .args .plan .n2)),
-        omega (arith, c .before .if5 .taken, c .before .before .before .before .larger .ensures, le-max-right (e .args .plan .n1) (e .args .plan .n2)),
+        omega (arith, c .before .if5 .taken, c .before .before .before .before .larger .ensures, le-max-left (entry .args .plan .n1) (entry .args .plan .n2)),
+        omega (arith, c .before .if5 .taken, c .before .before .before .before .larger .ensures, le-max-right (entry .args .plan .n1) (entry .args .plan .n2)),
       ),
     )
 
@@ -92,8 +98,9 @@ returns-5 c = search needs
 
 in-long-lanes-requires-2 : tie.Need-in-long-lanes-requires-2
 in-long-lanes-requires-2 c κs =
-    let k = c .before .before .before .before .before .before .before .before .before .before .pre .0 in (
-      within (c .before .before .before .before .before .before .before .before .before .before .pre .0) _ _ _ (c .before .before .before .before .before .before .before .before .before .before .pre .1 .0) (c .before .before .before .before .before .before .before .before .before .before .pre .1 .1) (c .before .before .before .before .before .before .if1 .left),
+    let entry = c .before .before .before .before .before .before .before .before .before .before in
+    let k = entry .pre .0 in (
+      within (entry .pre .0) _ _ _ (entry .pre .1 .0) (entry .pre .1 .1) (c .before .before .before .before .before .before .if1 .left),
       (inr refl, omega (arith, plan.count₁ k, k .files .sound₁ .countHigh), omega (arith, plan.count₂ k, k .files .sound₂ .countHigh)),
     )
 

@@ -72,16 +72,17 @@ same-length c = search needs
 returns-2 : tie.Need-returns-2
 unfolding answer
 returns-2 c =
-    let a = c .before .before .before .before .before .before .before .before .before .before .before .before .before .before .args in
-    let g = c .before .before .before .before .before .before .before .before .before in
-    let n = c .before .before .before .before .before .before .before .before .step-count .ensures .0 in
+    let place = c .before .before .before .before .before .before .before .before in
+    let a = place .before .before .before .before .before .before .args in
+    let g = place .before in
+    let n = place .step-count .ensures .0 in
     let o = c .before .before .before .before .before .before .output-at .ensures in
     let w = answer-accepted (now (a .file)) (now (a .vector)) (now (a .scratch)) (sym (number (g .before)) ∙ g .if1 .left) in
     record {
       answer = ap₂ answer (g .before .refusal-at .ensures) (o .output) ∙ w .0;
       scratch =
           c .before .before .clear .ensures
-          ∙ ap (λ l. replicate (c .before .before .before .before .before .before .before .before .step-count .result) 0 ++ l) (o .kept)
+          ∙ ap (λ l. replicate (place .step-count .result) 0 ++ l) (o .kept)
           ∙ ap (λ k. replicate k 0 ++ drop k (now (a .scratch))) n
           ∙ w .1;
     }

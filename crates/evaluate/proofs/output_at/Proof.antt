@@ -38,8 +38,9 @@ same-length c = search needs
 
 returns : tie.Need-returns
 returns c =
-    let a = c .before .before .before .before .before .before .before .before .before .before .args in
-    let p = c .before .before .before .before .before .before .before .before .before .before .pre in
+    let entry = c .before .before .before .before .before .before .before .before .before .before in
+    let a = entry .args in
+    let p = entry .pre in
     let e = c .before .before .before .before .before .run .ensures in
     record {
       output =

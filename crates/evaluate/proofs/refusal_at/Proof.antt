@@ -25,11 +25,14 @@ sound c = sym (number (c .before)) ∙ c .if1 .left
 rules : (c : tie.Else1) → Accepted (now (c .before .before .before .before .args .file))
 rules c = accepted _ (sound c)
 
+abbrev entry : tie.After-bad-vector → tie.Start
+entry c = c .before .before .before .before .before .before .before .before
+
 vector-test :
     (c : tie.After-bad-vector) →
-    badVector (sizesOf (now (c .before .before .before .before .before .before .before .before .args .file))) (now (c .before .before .before .before .before .before .before .before .args .vector)) ≡ c .bad-vector .result
+    badVector (sizesOf (now (entry c .args .file))) (now (entry c .args .vector)) ≡ c .bad-vector .result
 vector-test c =
-    ap (λ (z : Sizes). badVector z (now (c .before .before .before .before .before .before .before .before .args .vector))) (sym (c .before .read-sizes .ensures)) ∙ sym (c .bad-vector .ensures)
+    ap (λ (z : Sizes). badVector z (now (entry c .args .vector))) (sym (c .before .read-sizes .ensures)) ∙ sym (c .bad-vector .ensures)
 
 check-requires : tie.Need-check-requires
 check-requires c κs = search needs

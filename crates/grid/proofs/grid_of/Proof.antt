@@ -62,10 +62,11 @@ next :
     let l = c .before .before .loop in
     Filled (z .m) (z .d) (z .widths) (set (l .axes) (l .i) (c .axis .result)) (l .size * c .axis .result) (l .i + 1)
 next c =
-    let z = c .before .before .before .before .before .before .args .z in
+    let entry = c .before .before .before .before .before .before in
+    let z = entry .args .z in
     let l = c .before .before .loop in
     more (z .m) (z .d) (z .widths) (l .axes) (l .size) (l .i) (l .inv) (c .axis .result)
-    (c .before .before .before .before .before .before .pre .1) (c .before .loop-test .taken) (c .axis .ensures .0)
+    (entry .pre .1) (c .before .loop-test .taken) (c .axis .ensures .0)
 
 cast-m : tie.Need-cast-m Inv-loop μ-loop
 cast-m c = search needs
@@ -95,8 +96,9 @@ array-write-axes c = search needs
 
 mul-size : tie.Need-mul-size Inv-loop μ-loop
 mul-size c =
-    let z = c .before .before .before .before .before .before .args .z in
-    let p = c .before .before .before .before .before .before .pre in
+    let entry = c .before .before .before .before .before .before in
+    let z = entry .args .z in
+    let p = entry .pre in
     let i = c .before .before .loop .i in
     let f = next c in
     record { fits = subst (λ n. n < 2 ^ 64) (sym (f .sized)) (size-fits (z .m) (p .0 .0) (p .0 .1) (take (i + 1) (z .widths)) (rw length-take (omega (arith, p .1, f .within)))) }

@@ -11,15 +11,13 @@ use lib.IntN.{ℤ, pos, _*ℤ_}
 use Rattle.dependence.specs.Dependence.{valueAt}
 use Rattle.dependence.proofs.Values.{value-input, value-constant, value-sum, value-difference, value-product}
 use Rattle.fields.specs.File.{sizesOf}
-use Rattle.fields.specs.Steps.{stepAt}
 use Rattle.file.proofs.Accepted.{Is, is}
 use Rattle.integers.specs.Modulo.{remainder}
 use Rattle.integers.proofs.Remainder.{remainder-pos}
-use Rattle.rows.specs.Rows.{lane, Operands}
+use Rattle.rows.specs.Rows.{lane, HasRow, Operands}
 use Rattle.rows.proofs.Writing.{before-row}
 use Rattle.datapath.specs.declared.Step.{Step}
-use Rattle.datapath.specs.declared.Step.the-variants.{Input, Constant, Add, Subtract, Multiply}
-use Rattle.lanes.specs.Lanes.{StandsFor, Held, Room}
+use Rattle.lanes.specs.Lanes.{StandsFor, Held}
 use Rattle.lanes.proofs.Residues.{residue-sum, residue-difference}
 use Rattle.lanes.proofs.Stepped.{width-most}
 use Rattle.lanes.proofs.step_row.Statement.{statement}
@@ -43,29 +41,25 @@ module _ (w : ℕ) (s x rows : List ℕ) (l k : ℕ) where
       (subst (λ n. (u v : ℤ) → StandsFor n (lane w before a l) u → StandsFor n (lane w before b l) v → StandsFor n (lane w rows k l) (u *ℤ v)) e written
       (valueAt s x a) (valueAt s x b) left right)
 
--- what a call on rows a and b asks, where both are before row k
-operands : {w : ℕ} {s : List ℕ} {n : ℕ} {inputs rows : List ℕ} (k a b : ℕ) → Room w s n inputs rows → k < n → (a < k) × (b < k) → Operands w rows k a b
-operands {w} {s} {n} k a b p h r =
-    record { left = r .0; right = r .1; lanes = width-most (p .width); room = omega (arith, p .stepRows, before-row w k n h) }
+-- the entry, from where the step has been read
+abbrev entry : tie.After-step-at → tie.Start
+entry b = b .before .before .before .before
 
 -- step k is what is read of it
-read : {w : ℕ} {s : List ℕ} {n : ℕ} {inputs rows : List ℕ} (k : ℕ) → Room w s n inputs rows → k < n → (t u : Step) → t ≡ stepAt s k → t ≡ u → Is s k u
-read k p h t u e q = is _ _ k (record { sound = p .sound; count = p .count }) h t u e q
+read : (b : tie.After-step-at) (u : Step) → b .step-at .result ≡ u → Is (now (entry b .args .file)) (entry b .args .k) u
+read b u q =
+    let p = entry b .pre in
+    is _ _ _ (record { sound = p .0 .sound; count = p .0 .count }) (p .1 .0) _ u (b .step-at .ensures) q
 
-input : (c : tie.After-step) → Is (now (c .before .before .before .before .before .before .args .file)) (c .before .before .before .before .before .before .args .k) (Input (c .step .given .0 .0))
-input c = read _ (c .before .before .before .before .before .before .pre .0) (c .before .before .before .before .before .before .pre .1 .0) _ _ (c .before .before .step-at .ensures) (c .step .given .1)
+-- row k lies within the rows
+own-row : (b : tie.After-step-at) → HasRow (entry b .args .w) (now (entry b .args .rows)) (entry b .args .k)
+own-row b =
+    let e = entry b in
+    omega (arith, e .pre .0 .stepRows, before-row (e .args .w) (e .args .k) (e .args .n) (e .pre .1 .0))
 
-constant : (c : tie.After-step2) → Is (now (c .before .before .before .before .before .before .args .file)) (c .before .before .before .before .before .before .args .k) (Constant (c .step2 .given .0 .0))
-constant c = read _ (c .before .before .before .before .before .before .pre .0) (c .before .before .before .before .before .before .pre .1 .0) _ _ (c .before .before .step-at .ensures) (c .step2 .given .1)
-
-sum : (c : tie.After-step3) → Is (now (c .before .before .before .before .before .before .args .file)) (c .before .before .before .before .before .before .args .k) (Add (c .step3 .given .0 .0) (c .step3 .given .0 .1 .0))
-sum c = read _ (c .before .before .before .before .before .before .pre .0) (c .before .before .before .before .before .before .pre .1 .0) _ _ (c .before .before .step-at .ensures) (c .step3 .given .1)
-
-difference : (c : tie.After-step4) → Is (now (c .before .before .before .before .before .before .args .file)) (c .before .before .before .before .before .before .args .k) (Subtract (c .step4 .given .0 .0) (c .step4 .given .0 .1 .0))
-difference c = read _ (c .before .before .before .before .before .before .pre .0) (c .before .before .before .before .before .before .pre .1 .0) _ _ (c .before .before .step-at .ensures) (c .step4 .given .1)
-
-product : (c : tie.After-step5) → Is (now (c .before .before .before .before .before .before .args .file)) (c .before .before .before .before .before .before .args .k) (Multiply (c .step5 .given .0 .0) (c .step5 .given .0 .1 .0))
-product c = read _ (c .before .before .before .before .before .before .pre .0) (c .before .before .before .before .before .before .pre .1 .0) _ _ (c .before .before .step-at .ensures) (c .step5 .given .1)
+-- what a call on rows l and r asks, where both are before row k
+operands : (b : tie.After-step-at) (l r : ℕ) → (l < entry b .args .k) × (r < entry b .args .k) → Operands (entry b .args .w) (now (entry b .args .rows)) (entry b .args .k) l r
+operands b l r h = record { left = h .0; right = h .1; lanes = width-most (entry b .pre .0 .width); room = own-row b }
 
 step-at-requires : tie.Need-step-at-requires
 step-at-requires c κs = search needs
@@ -75,30 +69,28 @@ enum-known-step c = search needs
 
 copy-row-requires : tie.Need-copy-row-requires
 copy-row-requires c κs =
-    let e = c .before .before .before .before .before .before .before .before in (
-      (width-most (e .pre .0 .width), omega (arith, e .pre .0 .inputRows, before-row (e .args .w) _ _ (input (c .before .before) .rule))),
-      omega (arith, e .pre .0 .stepRows, before-row (e .args .w) (e .args .k) (e .args .n) (e .pre .1 .0)),
-    )
+    let b = c .before .before .before .before in
+    let e = entry b in
+    let i = read b _ (c .before .before .step .given .1) in
+    ((width-most (e .pre .0 .width), omega (arith, e .pre .0 .inputRows, before-row (e .args .w) _ _ (i .rule))), own-row b)
 
 enum-known-step-2 : tie.Need-enum-known-step-2
 enum-known-step-2 c = search needs
 
 fill-row-requires : tie.Need-fill-row-requires
-fill-row-requires c κs =
-    let e = c .before .before .before .before .before .before .before .before in
-    omega (arith, e .pre .0 .stepRows, before-row (e .args .w) (e .args .k) (e .args .n) (e .pre .1 .0))
+fill-row-requires c κs = own-row (c .before .before .before .before)
 
 enum-known-step-3 : tie.Need-enum-known-step-3
 enum-known-step-3 c = search needs
 
 add-rows-requires : tie.Need-add-rows-requires
-add-rows-requires c κs = operands _ _ _ (c .before .before .before .before .before .before .before .before .pre .0) (c .before .before .before .before .before .before .before .before .pre .1 .0) (sum (c .before .before) .rule)
+add-rows-requires c κs = let b = c .before .before .before .before in operands b _ _ (read b _ (c .before .before .step3 .given .1) .rule)
 
 enum-known-step-4 : tie.Need-enum-known-step-4
 enum-known-step-4 c = search needs
 
 subtract-rows-requires : tie.Need-subtract-rows-requires
-subtract-rows-requires c κs = operands _ _ _ (c .before .before .before .before .before .before .before .before .pre .0) (c .before .before .before .before .before .before .before .before .pre .1 .0) (difference (c .before .before) .rule)
+subtract-rows-requires c κs = let b = c .before .before .before .before in operands b _ _ (read b _ (c .before .before .step4 .given .1) .rule)
 
 enum-known-step-5 : tie.Need-enum-known-step-5
 enum-known-step-5 c = search needs
@@ -108,20 +100,20 @@ output-length-requires c κs = search needs
 
 product-row-requires : tie.Need-product-row-requires
 product-row-requires c κs =
-    let e = c .before .before .before .before .before .before .before .before .before in
-    (omega (arith, c .before .output-length .ensures, e .pre .0 .sound .outputHigh), operands _ _ _ (e .pre .0) (e .pre .1 .0) (product (c .before .before .before) .rule))
+    let b = c .before .before .before .before .before in
+    let i = read b _ (c .before .before .before .step5 .given .1) in
+    (omega (arith, c .before .output-length .ensures, entry b .pre .0 .sound .outputHigh), operands b _ _ (i .rule))
 
 same-length : tie.Need-same-length
 same-length c = search needs
 
 returns : tie.Need-returns
 returns c =
-    let i = input (c .before .before .before .before .before) in
+    let b = c .before .before .before .before .before .before .before in
+    let i = read b _ (c .before .before .before .before .before .step .given .1) in
     let called = c .before .before .copy-row .ensures in
-    let w = c .before .before .before .before .before .before .before .before .before .before .before .args .w in
-    let rows = c .before .before .copy-row .last .1 .1 .0 in
     record {
-      row = λ l x b reads held. held-pos w _ x rows l _ _ (called .row l b ∙ reads _ (i .rule)) (value-input _ x _ (i .inside) _ (i .step));
+      row = λ l x h reads held. held-pos (entry b .args .w) _ x (c .before .before .copy-row .last .1 .1 .0) l _ _ (called .row l h ∙ reads _ (i .rule)) (value-input _ x _ (i .inside) _ (i .step));
       others = called .others;
     }
 
@@ -130,12 +122,11 @@ same-length-2 c = search needs
 
 returns-2 : tie.Need-returns-2
 returns-2 c =
-    let i = constant (c .before .before .before .before .before) in
+    let b = c .before .before .before .before .before .before .before in
+    let i = read b _ (c .before .before .before .before .before .step2 .given .1) in
     let called = c .before .before .fill-row .ensures in
-    let w = c .before .before .before .before .before .before .before .before .before .before .before .args .w in
-    let rows = c .before .before .fill-row .last .0 in
     record {
-      row = λ l x b reads held. held-pos w _ x rows l _ _ (called .row l b) (value-constant _ x _ (i .inside) _ (i .step));
+      row = λ l x h reads held. held-pos (entry b .args .w) _ x (c .before .before .fill-row .last .0) l _ _ (called .row l h) (value-constant _ x _ (i .inside) _ (i .step));
       others = called .others;
     }
 
@@ -144,15 +135,13 @@ same-length-3 c = search needs
 
 returns-3 : tie.Need-returns-3
 returns-3 c =
-    let i = sum (c .before .before .before .before .before) in
+    let b = c .before .before .before .before .before .before .before in
+    let i = read b _ (c .before .before .before .before .before .step3 .given .1) in
     let called = c .before .before .add-rows .ensures in
-    let w = c .before .before .before .before .before .before .before .before .before .before .before .args .w in
-    let rows = c .before .before .add-rows .last .0 in
-    let high = c .before .before .before .before .before .before .before .before .before .before .before .pre .0 .sound .outputHigh in
     record {
       row =
-          λ l x b reads held. held-word w _ x rows l _ _ (value-sum _ x _ (i .inside) _ _ (i .rule .0) (i .rule .1) (i .step)) _ (called .row l b)
-          (residue-sum _ _ _ _ _ (held _ (i .rule .0)) (held _ (i .rule .1)) high);
+          λ l x h reads held. held-word (entry b .args .w) _ x (c .before .before .add-rows .last .0) l _ _ (value-sum _ x _ (i .inside) _ _ (i .rule .0) (i .rule .1) (i .step)) _ (called .row l h)
+          (residue-sum _ _ _ _ _ (held _ (i .rule .0)) (held _ (i .rule .1)) (entry b .pre .0 .sound .outputHigh));
       others = called .others;
     }
 
@@ -161,15 +150,13 @@ same-length-4 c = search needs
 
 returns-4 : tie.Need-returns-4
 returns-4 c =
-    let i = difference (c .before .before .before .before .before) in
+    let b = c .before .before .before .before .before .before .before in
+    let i = read b _ (c .before .before .before .before .before .step4 .given .1) in
     let called = c .before .before .subtract-rows .ensures in
-    let w = c .before .before .before .before .before .before .before .before .before .before .before .args .w in
-    let rows = c .before .before .subtract-rows .last .0 in
-    let high = c .before .before .before .before .before .before .before .before .before .before .before .pre .0 .sound .outputHigh in
     record {
       row =
-          λ l x b reads held. held-word w _ x rows l _ _ (value-difference _ x _ (i .inside) _ _ (i .rule .0) (i .rule .1) (i .step)) _ (called .row l b)
-          (residue-difference _ _ _ _ _ (held _ (i .rule .0)) (held _ (i .rule .1)) high);
+          λ l x h reads held. held-word (entry b .args .w) _ x (c .before .before .subtract-rows .last .0) l _ _ (value-difference _ x _ (i .inside) _ _ (i .rule .0) (i .rule .1) (i .step)) _ (called .row l h)
+          (residue-difference _ _ _ _ _ (held _ (i .rule .0)) (held _ (i .rule .1)) (entry b .pre .0 .sound .outputHigh));
       others = called .others;
     }
 
@@ -178,15 +165,13 @@ same-length-5 c = search needs
 
 returns-5 : tie.Need-returns-5
 returns-5 c =
-    let i = product (c .before .before .before .before .before .before) in
+    let b = c .before .before .before .before .before .before .before .before in
+    let i = read b _ (c .before .before .before .before .before .before .step5 .given .1) in
     let called = c .before .before .product-row .ensures in
-    let before = now (c .before .before .before .before .before .before .before .before .before .before .before .before .args .rows) in
-    let w = c .before .before .before .before .before .before .before .before .before .before .before .before .args .w in
-    let rows = c .before .before .product-row .last .1 .0 in
     let m = c .before .before .before .before .output-length .ensures in
     record {
       row =
-          λ l x b reads held. held-product w _ x rows l _ before _ _ _ m (λ u v. called .row l u v b)
+          λ l x h reads held. held-product (entry b .args .w) _ x (c .before .before .product-row .last .1 .0) l _ (now (entry b .args .rows)) _ _ _ m (λ u v. called .row l u v h)
           (value-product _ x _ (i .inside) _ _ (i .rule .0) (i .rule .1) (i .step)) (held _ (i .rule .0)) (held _ (i .rule .1));
       others = called .others;
     }

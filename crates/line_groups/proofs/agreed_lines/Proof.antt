@@ -185,12 +185,13 @@ sub-list-dependent-2 c =
 
 list-dependent-requires-2 : tie.Need-list-dependent-requires-2 Inv-loop μ-loop
 list-dependent-requires-2 c κs =
-    let e = entry (c .before .before .before .before .before .before) in
+    let place = c .before .before .before .before .before .before in
+    let e = entry place in
     let q = e .pre in
     let k = q .0 .planned in (
       record { sound = k .files .sound₂; count = plan.count₂ k },
       (
-        omega (arith, q .1 .0 .flagged, le-max-right (e .args .plan .n1) (e .args .plan .n2), c .before .before .before .before .before .before .list-dependent .kept .1 .1 .1 .0),
+        omega (arith, q .1 .0 .flagged, le-max-right (e .args .plan .n1) (e .args .plan .n2), place .list-dependent .kept .1 .1 .1 .0),
         q .1 .0 .room₂,
       ),
     )
@@ -285,14 +286,15 @@ same-length-5 c =
 
 returns : tie.Need-returns Inv-loop μ-loop
 returns c =
-    let block = c .before .before .before .before .before .before .agreeing-lanes in
-    let s = lanes (c .before .before .before .before .before .before) in
+    let place = c .before .before .before .before .before .before in
+    let group = place .agreeing-lanes in
+    let s = lanes place in
     let t = s .before .before .loop-test .taken in
     let k = head s .loop .inv in
     record {
       low = omega (arith, k .low);
       high = omega (arith, k .high, t, c .if1 .taken);
-      agree = passed k t (s .set-lanes .last .0) (s .set-lanes .ensures .set) _ (block .ensures .few) (block .ensures .agree);
+      agree = passed k t (s .set-lanes .last .0) (s .set-lanes .ensures .set) _ (group .ensures .few) (group .ensures .agree);
       kept = flags-kept (second (head s));
     }
 
@@ -308,12 +310,13 @@ loop-less c =
 
 loop-again : tie.Need-loop-again Inv-loop μ-loop
 loop-again c =
-    let s = lanes (c .before .before .before .before .before .before) in
+    let place = c .before .before .before .before .before .before in
+    let s = lanes place in
     let k = head s .loop .inv in
     let set = s .set-lanes in
-    let block = c .before .before .before .before .before .before .agreeing-lanes in
-    more k (s .before .before .loop-test .taken) (set .last .0) (set .ensures .set) _ (block .ensures .few) (block .ensures .agree) _ _ _ (block .kept .1 .1 .1 .1 .0)
-    (block .kept .1 .1 .1 .1 .1 .0) (block .kept .1 .1 .1 .1 .1 .1 .1 .1 .1 .0 ∙ set .kept .0 ∙ k .lanes) (c .if1 .left)
+    let group = place .agreeing-lanes in
+    more k (s .before .before .loop-test .taken) (set .last .0) (set .ensures .set) _ (group .ensures .few) (group .ensures .agree) _ _ _ (group .kept .1 .1 .1 .1 .0)
+    (group .kept .1 .1 .1 .1 .1 .0) (group .kept .1 .1 .1 .1 .1 .1 .1 .1 .1 .0 ∙ set .kept .0 ∙ k .lanes) (c .if1 .left)
 
 same-length-6 : tie.Need-same-length-6 Inv-loop μ-loop
 same-length-6 c = c .before .loop .inv .long₁

@@ -46,8 +46,9 @@ array-read-if3-2 c = search needs
 returns-3 : tie.Need-returns-3 Inv-loop μ-loop
 unfolding sameSizes
 returns-3 c =
-    let a = c .before .before .before .before .before .before .before .before .before .before .before .args .z .widths in
-    let b = c .before .before .before .before .before .before .before .before .before .before .before .args .w .widths in
+    let entry = c .before .before .before .before .before .before .before .before .before .before .before in
+    let a = entry .args .z .widths in
+    let b = entry .args .w .widths in
     rw (eq-eqb _ _ (c .before .before .before .before .before .before .before .before .if1 .left), eq-eqb _ _ (c .before .before .before .before .before .if2 .left))
     (sym (c .before .before .loop .inv .1 ∙ every-not (alike a b) _ maxInputs (c .before .loop-test .taken) (ne-eqb _ _ (c .if3 .taken))))
 
@@ -64,8 +65,9 @@ loop-again c =
 returns-4 : tie.Need-returns-4 Inv-loop μ-loop
 unfolding sameSizes
 returns-4 c =
-    let a = c .before .before .before .before .before .before .before .before .before .before .args .z .widths in
-    let b = c .before .before .before .before .before .before .before .before .before .before .args .w .widths in
+    let entry = c .before .before .before .before .before .before .before .before .before .before in
+    let a = entry .args .z .widths in
+    let b = entry .args .w .widths in
     rw (eq-eqb _ _ (c .before .before .before .before .before .before .before .if1 .left), eq-eqb _ _ (c .before .before .before .before .if2 .left))
     (sym (c .before .loop .inv .1 ∙ every-end (alike a b) _ maxInputs (c .loop-test .left)))
 

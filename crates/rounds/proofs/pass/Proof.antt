@@ -66,15 +66,17 @@ block-requires c κs =
 
 loop-less : tie.Need-loop-less Inv-loop μ-loop
 loop-less c =
-    let a = c .before .before .before .before .before .before .before .args in
-    let z = multiple-least (a .u * a .w) (length (now (a .cells))) (c .before .before .before .before .before .before .before .pre .1) (omega arith) in
+    let entry = c .before .before .before .before .before .before .before in
+    let a = entry .args in
+    let z = multiple-least (a .u * a .w) (length (now (a .cells))) (entry .pre .1) (omega arith) in
     omega (arith, within (c .before .before .before .before))
 
 loop-again : tie.Need-loop-again Inv-loop μ-loop
 loop-again c =
-    let a = c .before .before .before .before .before .before .before .args in
+    let entry = c .before .before .before .before .before .before .before in
+    let a = entry .args in
     let l = c .before .before .before .before .before .loop in
-    let z = sides (c .before .before .before .before .before .before .before) in
+    let z = sides (entry) in
     let k : l .at + a .u * a .w - l .at ≡ a .u * a .w = omega arith in
     let e = within (c .before .before .before .before) in (
       e,

@@ -109,11 +109,12 @@ vector-at-requires c κs =
 
 loop-holds : tie.Need-loop-holds Inv-loop μ-loop
 loop-holds c =
+    let entry = c .before .before .before .before .before in
     record {
-      span = c .before .before .before .before .before .pre;
+      span = entry .pre;
       long = refl;
       kept = refl;
-      within = omega (arith, c .before .before .before .before .before .pre .some);
+      within = omega (arith, entry .pre .some);
       full = search needs;
       vector = λ h. c .vector-at .ensures;
       same = refl;

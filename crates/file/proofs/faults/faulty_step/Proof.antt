@@ -27,10 +27,11 @@ step-fault-requires c κs = search needs
 returns : tie.Need-returns Inv-loop μ-loop
 unfolding faultyStep
 returns c =
-    let s = now (c .before .before .before .before .before .args .file) in
+    let entry = c .before .before .before .before .before in
+    let s = now (entry .args .file) in
     let broken = faulty s _ (λ (e : stepFault s _ ≡ 0). c .if1 .taken (c .before .step-fault .ensures ∙ e)) in
     sym
-    (ap (first (faultyAt s) 0) (sym (c .before .before .before .before .before .pre .count))
+    (ap (first (faultyAt s) 0) (sym (entry .pre .count))
     ∙ c .before .before .before .loop .inv .1
     ∙ first-here _ _ _ broken)
 

@@ -12,7 +12,7 @@ ghost use Rattle.batches.specs.Prepared.{Prepared};
 ghost use Rattle.line_groups.specs.Groups.{Lists};
 ghost use Rattle.places.specs.Places.{size};
 ghost use Rattle.plan.specs.Comparison.{Searched};
-ghost use Rattle.spans.specs.Spans.{FirstLine};
+ghost use Rattle.spans.specs.Spans.{FirstLine, LinesFrom};
 
 // The first line of u places that starts at place p or after it.
 fn first_line(p: u64, u: u64) -> u64
@@ -34,6 +34,19 @@ fn between(a: u64, b: u64) -> u64
         return 0;
     }
     b - a
+}
+
+// The line from which on lines go together, where those before line `stop` may: the first that starts at place p or
+// after it, or, where enough are left, the next. The first then goes in batches, which find a difference in it sooner.
+fn lines_from(p: u64, u: u64, stop: u64, wide: u64) -> u64
+    requires { ⌜ 0 < u ⌝ }
+    ensures { λ r. ⌜ LinesFrom p u r ⌝ }
+{
+    let first = first_line(p, u);
+    if wide < between(first, stop) {
+        return first + 1;
+    }
+    first
 }
 
 // The first place of the span at which the outputs differ, or its end where there is none. Where the span has as many
@@ -64,9 +77,9 @@ pub fn by_lines(
     let u = axes[d - 1];
     let from = span.from;
     let end = span.end;
-    let start = first_line(from, u);
     let stop = end / u;
     let wide = shape.w as u64;
+    let start = lines_from(from, u, stop, wide);
     if between(start, stop) < wide {
         return by_batches(file1, file2, plan, shape, from, end, rows, other);
     }

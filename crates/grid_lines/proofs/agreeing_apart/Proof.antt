@@ -149,11 +149,11 @@ loop-less c = omega (arith, filled (first (c .before .before .before .before .be
 loop-again : tie.Need-loop-again Inv-loop μ-loop
 loop-again c =
     let place = c .before .before .before .before .before .before in
-    let f = filled (first (place)) in
+    let f = filled (first place) in
     let e = entry (head f) in
     let q = e .pre in
     let inv = head f .loop .inv in
-    let run₁ = first (place) .refresh in
+    let run₁ = first place .refresh in
     let run₂ = place .refresh2 in
     let long₁ = run₁ .kept .1 .1 .1 .0 in
     let long₂ = run₂ .kept .1 .1 .1 .0 in

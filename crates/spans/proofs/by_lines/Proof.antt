@@ -58,12 +58,12 @@ record Middle (u from end start : ℕ) : Type 0 where
   after : from ≤ start * u
   before : start * u ≤ end
 
-middle : (c : tie.Else1) → let a = entry c .args in Middle (lastAxis (a .plan)) (a .span .from) (a .span .end) (c .before .before .first-line .result)
+middle : (c : tie.Else1) → let a = entry c .args in Middle (lastAxis (a .plan)) (a .span .from) (a .span .end) (c .before .before .lines-from .result)
 middle c =
     let a = entry c .args in
-    let order : c .before .before .first-line .result ≤ a .span .end / lastAxis (a .plan) =
+    let order : c .before .before .lines-from .result ≤ a .span .end / lastAxis (a .plan) =
     omega (arith, c .if1 .left, c .before .between .ensures, width-least (entry c .pre .0 .width)) in
-    record { order = order; after = c .before .before .first-line .ensures .after; before = line-most (lastAxis (a .plan)) (a .span .end) _ order }
+    record { order = order; after = c .before .before .lines-from .ensures .after; before = line-most (lastAxis (a .plan)) (a .span .end) _ order }
 
 sub-u : tie.Need-sub-u
 sub-u c =
@@ -80,11 +80,11 @@ array-read-u c =
     let k = c .before .before .before .before .before .before .before .before .pre .0 .planned in
     omega (arith, plan.inputs k, k .files .sound₁ .inputsLow, k .files .sound₁ .inputsHigh)
 
-first-line-requires : tie.Need-first-line-requires
-first-line-requires c κs = axis-least (c .before .before .before .before .before .before .before .before)
-
 div-stop : tie.Need-div-stop
-div-stop c = axis-least (c .before .before .before .before .before .before .before .before .before)
+div-stop c = axis-least (c .before .before .before .before .before .before .before .before)
+
+lines-from-requires : tie.Need-lines-from-requires
+lines-from-requires c κs = axis-least (c .before .before .before .before .before .before .before .before)
 
 between-requires : tie.Need-between-requires
 between-requires c κs = search needs
@@ -190,7 +190,7 @@ returns-3 c =
       found =
           b .by-batches3 .ensures
           ∙ sym
-          (passed _ _ (guarded s .before .before .first-line .result * u) _ _ (middle (guarded s) .after) (mul-le-mul-right u (lines .ensures .low))
+          (passed _ _ (guarded s .before .before .lines-from .result * u) _ _ (middle (guarded s) .after) (mul-le-mul-right u (lines .ensures .low))
           (line-most u (a .span .end) (lines .result) (lines .ensures .high)) (omega (arith, s .by-batches2 .ensures, past)) (lines .ensures .agree));
       kept = lines .ensures .kept;
     }
@@ -202,8 +202,8 @@ by-lines-spec =
     sub-u
     mul-u
     array-read-u
-    first-line-requires
     div-stop
+    lines-from-requires
     between-requires
     by-batches-requires
     same-length

@@ -20,6 +20,7 @@ use Rattle.file.specs.Check.{fileNumber, refusalOf}
 use Rattle.fields.specs.File.{sizesOf, stepCount}
 use Rattle.file.proofs.Accepted.{accepted as file-accepted}
 use Rattle.file.proofs.Number.{refusal-number}
+use Rattle.file.proofs.Sound.{number-0}
 use Rattle.file_calls.specs.FileCalls.{CheckCall, OperationsCall, EvaluateCall, operationWords, evaluateWords}
 use Rattle.grid.specs.Grid.{axesOf, gridSize, gridOf}
 use Rattle.grid_calls.specs.GridCalls.{BoundCall, GridCall, boundWords, gridWords}
@@ -52,7 +53,6 @@ use Rattle.tables.specs.Tables.{differenced, summedUp}
 use Rattle.vectors.proofs.Padded.{padded-entry}
 use Rattle.callers.specs.AcceptedInC.{Checked, Stretched, From1To64, Bounded, Gridded, Evaluated, Tabled, Continued, CellsWritten, SumOfTableInC, DifferenceOfSumInC, SumOfDifferenceInC, AcceptedInC}
 use Rattle.callers.proofs.Refused.{right-told, right-left}
-use Rattle.callers.proofs.Sound.{number-0}
 
 -- what a call that returned 1 wrote
 pub wrote : (b : Bool) (after before slice : List ℕ) → 1 ≡ returned b → slice ≡ leaves b after before → slice ≡ after

@@ -4,5 +4,4 @@ pub mod Mirror
 pub mod Refused
 pub mod Report
 pub mod Said
-pub mod Sound
 pub mod Taken

@@ -3,9 +3,9 @@
 use mathlib.Core.Path.{_≡_, refl, _∙_, ap}
 use mathlib.Core.Bool.{Bool, true, false, not, cond, _||_, true≢false}
 use mathlib.Core.List.{List}
-use Prim.Native.Nat.{ℕ, suc, _^_, _<_, _≤_}
+use Prim.Native.Nat.{ℕ, suc, _<_, _≤_}
 use native.Mathlib.Omega.{arith}
-use lib.ListN.{length, getD}
+use lib.ListN.{length}
 use borrow.Author.Tests.{lt-ltb, le-ltb, ltb-true, ltb-false, not-false}
 use Rattle.grid.specs.Grid.{gridSize, tooLarge}
 use Rattle.grid.proofs.Axes.{never-large}
@@ -14,6 +14,7 @@ use Rattle.sizes.specs.Sizes.{badOutput, badInputs, badWidths, refusedBy, accep
 use Rattle.sizes.specs.declared.Refusal.{Refusal}
 use Rattle.sizes.specs.declared.Sizes.{Sizes}
 use Rattle.sizes.proofs.Ranges.{sound}
+use Rattle.cells.specs.Taken.{Fitting}
 use Rattle.cells.specs.Cells.{smallCell, largeCell, badCells, cellsRefusal}
 
 -- an answer of number 0 was not given by a test
@@ -24,12 +25,6 @@ passed-test false k r e = (refl, e)
 neither : (a b : Bool) → (a || b) ≡ false → (a ≡ false) × (b ≡ false)
 neither true b e = absurd (true≢false e)
 neither false b e = (refl, e)
-
--- what 13 leaves of a call that reads cells and writes len entries
-pub record Fitting (z : Sizes) (cells : List ℕ) (len : ℕ) : Type 0 where
-  pub read : gridSize z ≤ length cells
-  pub written : gridSize z ≤ len
-  pub small : (p : ℕ) → p < gridSize z → getD cells p 0 < 2 ^ z .m
 
 module _ (z : Sizes) (cells : List ℕ) (len : ℕ) where
   pub cells-short : length cells < gridSize z → badCells z cells len ≡ true

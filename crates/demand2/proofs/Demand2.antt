@@ -10,7 +10,8 @@ use lib.ListN.{length, take, drop, length-append, List·getD-append}
 use lib.Pow.{pow-pos}
 use lib.Seq.{take-at, length-take-le, getD-take}
 use Rattle.cells.specs.Cells.{cellsRefusal}
-use Rattle.cells.proofs.Answers.{Fitting, passed, fits, at-0}
+use Rattle.cells.specs.Taken.{Fitting}
+use Rattle.cells.proofs.Answers.{passed, fits, at-0}
 use Rattle.differences.specs.Statement.{Cells}
 use Rattle.differences.specs.Table.{mixedDifference, listed, tableOf, given, sumBelow, summed}
 use Rattle.differences.proofs.Listed.{length-tabulate, getD-tabulate}

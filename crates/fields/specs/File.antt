@@ -4,8 +4,8 @@
 --   stepCount s      N
 --   operation s k    the operation byte of step k
 --   argument s k     the argument of step k, a number of 64 bits
---   leftOperand a, rightOperand a, upperHalf a
---                    of an argument: the left step in the low 16 bits, the right step in the next 16, and the upper 32 bits
+--   leftOperand a, rightOperand a
+--                    of an argument: the left step in the low 16 bits, and the right step in the next 16
 --   operationsOf s   the operation bytes
 use mathlib.Core.List.{List}
 use Prim.Native.Nat.{ℕ, _+_, _*_, _/_, _%_, _^_}
@@ -34,9 +34,6 @@ leftOperand a = a % 2 ^ 16
 
 abbrev pub rightOperand : ℕ → ℕ
 rightOperand a = a / 2 ^ 16 % 2 ^ 16
-
-abbrev pub upperHalf : ℕ → ℕ
-upperHalf a = a / 2 ^ 32
 
 unfoldable pub operationsOf : List ℕ → List ℕ
 operationsOf s = take (stepCount s) (drop headLength s)

@@ -3,7 +3,7 @@
 use mathlib.Core.Bool.{true, false, _&&_, and-eq-true-iff}
 use mathlib.Core.List.{List}
 use mathlib.Core.Path.{_≡_, sym, _∙_, subst}
-use Prim.Native.Nat.{ℕ, _≤_, _<_}
+use Prim.Native.Nat.{ℕ, _^_, _≤_, _<_}
 use native.Mathlib.Decide.{ℕ-discrete}
 use native.Mathlib.Omega.{arith}
 use lib.Dec.{ltb, eqb}
@@ -14,18 +14,19 @@ use Rattle.datapath.specs.declared.Step.{Step}
 use Rattle.fields.specs.Steps.{stepAt}
 use Rattle.fields.proofs.Steps.{step-input, step-constant, step-add, step-subtract, step-otherwise}
 use Rattle.file.specs.Accepted.{Accepted, Counted, StepRule}
-use Rattle.file.specs.Check.{maxSteps, badOperation, badArgument, operandsRule, argumentRule, stepFault, faultyAt, faultyStep, fileNumber}
-use Rattle.fields.specs.File.{sizesOf, stepCount, operation, argument, leftOperand, rightOperand, upperHalf}
+use Rattle.file.specs.Check.{maxSteps, upperHalf, badOperation, badArgument, operandsRule, argumentRule, stepFault, faultyAt, faultyStep, fileNumber}
+use Rattle.fields.specs.File.{sizesOf, stepCount, operation, argument, leftOperand, rightOperand}
 use Rattle.file.proofs.Cases.{rule-input, rule-constant, rule-operands}
 use Rattle.file.proofs.Number.{cond-zero, head-passed, number-zero}
 
--- both operands of a kept rule, and the upper half
-operands-range : (k a : ℕ) → operandsRule k a ≡ true → (leftOperand a < k) × (rightOperand a < k) × (upperHalf a ≡ 0)
+-- both operands of a kept rule, and the upper half, which is zero: the argument is below 2^32
+operands-range : (k a : ℕ) → operandsRule k a ≡ true → (leftOperand a < k) × (rightOperand a < k) × (a < 2 ^ 32)
 unfolding operandsRule
 operands-range k a e =
     let p = and-eq-true-iff (ltb (leftOperand a) k && ltb (rightOperand a) k) (eqb (upperHalf a) 0) .0 e in
     let q = and-eq-true-iff (ltb (leftOperand a) k) (ltb (rightOperand a) k) .0 (p .0) in
-    (ltb-true _ _ (q .0), ltb-true _ _ (q .1), eqb-true _ _ (p .1))
+    let upper : upperHalf a ≡ 0 = eqb-true _ _ (p .1) in
+    (ltb-true _ _ (q .0), ltb-true _ _ (q .1), omega arith)
 
 module _ (s : List ℕ) (e : fileNumber s ≡ 0) where
   -- the tests that step k passed
@@ -46,7 +47,7 @@ module _ (s : List ℕ) (e : fileNumber s ≡ 0) where
 
   operands-kept :
       (k : ℕ) → k < stepCount s → 3 ≤ operation s k
-      → (leftOperand (argument s k) < k) × (rightOperand (argument s k) < k) × (upperHalf (argument s k) ≡ 0)
+      → (leftOperand (argument s k) < k) × (rightOperand (argument s k) < k) × (argument s k < 2 ^ 32)
   operands-kept k l h =
       operands-range k (argument s k)
       (sym (rule-operands (sizesOf s) k _ _ (λ (q : operation s k ≡ 1). omega arith) (λ (q : operation s k ≡ 2). omega arith))

@@ -13,8 +13,8 @@ use borrow.Author.Tests.{lt-ltb, le-ltb, eq-eqb, ne-eqb, ltb-true, ltb-false}
 use Rattle.ranges.proofs.Search.{true-or-false}
 use Rattle.sizes.specs.declared.Sizes.{Sizes}
 use Rattle.sizes.specs.Sizes.{within, badOutput, badInputs, badWidths}
-use Rattle.fields.specs.File.{headLength, sizesOf, stepCount, operation, argument, leftOperand, rightOperand, upperHalf}
-use Rattle.file.specs.Check.{maxSteps, tooShort, badCount, badLength, badOperation, operandsRule, argumentRule, badArgument, stepFault, faultyAt, headFault}
+use Rattle.fields.specs.File.{headLength, sizesOf, stepCount, operation, argument, leftOperand, rightOperand}
+use Rattle.file.specs.Check.{maxSteps, tooShort, badCount, badLength, badOperation, upperHalf, operandsRule, argumentRule, badArgument, stepFault, faultyAt, headFault}
 
 -- r is the outcome of a test f at x, and x is y: what r is, f is at y
 pub told : {A : Type 0} (f : A → Bool) {x y : A} {r b : Bool} → r ≡ f x → x ≡ y → r ≡ b → f y ≡ b

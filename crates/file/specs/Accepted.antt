@@ -1,8 +1,10 @@
 -- What holds of an accepted file, as orders and equations of numbers: document 01's rules, with no test in them.
 --   Accepted s       the rules of the head, the length, the word lengths and each step of s
+--   AcceptedExactly  a file has the number 0 exactly where it keeps them. Proved in proofs/Sound
 --   Counted s n      the file s is accepted and has n steps
 --   StepRule z k t   the rule of step k, t, of a file with sizes z: an input is one of the d, a constant fits m bits, operands are earlier steps
 use mathlib.Core.List.{List}
+use mathlib.Core.Logic.{_↔_}
 use mathlib.Core.Path.{_≡_}
 use Prim.Native.Nat.{ℕ, _+_, _*_, _^_, _≤_, _<_}
 use lib.ListN.{length, getD}
@@ -10,8 +12,8 @@ use Rattle.sizes.specs.Sizes.{maxInputs}
 use Rattle.sizes.specs.declared.Sizes.{Sizes}
 use Rattle.datapath.specs.declared.Step.{Step}
 use Rattle.datapath.specs.declared.Step.the-variants.{Input, Constant, Add, Subtract, Multiply}
-use Rattle.file.specs.Check.{maxSteps}
-use Rattle.fields.specs.File.{headLength, sizesOf, stepCount, operation, argument, leftOperand, rightOperand, upperHalf}
+use Rattle.file.specs.Check.{maxSteps, fileNumber}
+use Rattle.fields.specs.File.{headLength, sizesOf, stepCount, operation, argument, leftOperand, rightOperand}
 
 pub record Accepted (s : List ℕ) : Type 0 where
   pub long : headLength ≤ length s
@@ -31,7 +33,10 @@ pub record Accepted (s : List ℕ) : Type 0 where
   pub constantArgument : (k : ℕ) → k < stepCount s → operation s k ≡ 2 → argument s k < 2 ^ sizesOf s .m
   pub leftBefore : (k : ℕ) → k < stepCount s → 3 ≤ operation s k → leftOperand (argument s k) < k
   pub rightBefore : (k : ℕ) → k < stepCount s → 3 ≤ operation s k → rightOperand (argument s k) < k
-  pub upperZero : (k : ℕ) → k < stepCount s → 3 ≤ operation s k → upperHalf (argument s k) ≡ 0
+  pub upperZero : (k : ℕ) → k < stepCount s → 3 ≤ operation s k → argument s k < 2 ^ 32
+
+abbrev pub AcceptedExactly : Type 0
+AcceptedExactly = (s : List ℕ) → (fileNumber s ≡ 0) ↔ Accepted s
 
 pub record Counted (s : List ℕ) (n : ℕ) : Type 0 where
   pub sound : Accepted s

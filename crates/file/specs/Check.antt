@@ -14,14 +14,14 @@
 --   stretchOf s       the operation bytes that are handed out: of a refused file, none
 use mathlib.Core.Bool.{Bool, not, cond, _&&_}
 use mathlib.Core.List.{List, []}
-use Prim.Native.Nat.{ℕ, _+_, _*_, _^_}
+use Prim.Native.Nat.{ℕ, _+_, _*_, _/_, _^_}
 use lib.Dec.{leb, ltb, eqb}
 use lib.ListN.{length}
 use Rattle.ranges.specs.Search.{first}
 use Rattle.sizes.specs.declared.Refusal.{Refusal}
 use Rattle.sizes.specs.declared.Sizes.{Sizes}
 use Rattle.sizes.specs.Sizes.{within, badOutput, badInputs, badWidths}
-use Rattle.fields.specs.File.{headLength, sizesOf, stepCount, operation, argument, leftOperand, rightOperand, upperHalf, operationsOf}
+use Rattle.fields.specs.File.{headLength, sizesOf, stepCount, operation, argument, leftOperand, rightOperand, operationsOf}
 
 abbrev pub maxSteps : ℕ
 maxSteps = 1024
@@ -37,6 +37,10 @@ badLength s = not (eqb (length s) (headLength + 9 * stepCount s))
 
 unfoldable pub badOperation : List ℕ → ℕ → Bool
 badOperation s k = not (within 1 5 (operation s k))
+
+-- the upper 32 bits of an argument
+abbrev pub upperHalf : ℕ → ℕ
+upperHalf a = a / 2 ^ 32
 
 -- both operands are steps before step k, and the upper half is 0
 unfoldable pub operandsRule : ℕ → ℕ → Bool

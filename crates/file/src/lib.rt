@@ -1,4 +1,4 @@
-// The datapath file: its fields, whether it is accepted, and its operation bytes.
+// The datapath file: whether it is accepted, and its operation bytes.
 use crate::faults::faulty_step;
 use crate::faults::head_fault;
 use crate::faults::step_fault;

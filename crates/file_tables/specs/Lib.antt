@@ -1,2 +1,3 @@
 pub mod FileTables
 pub mod Filling
+pub mod Taken

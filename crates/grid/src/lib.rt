@@ -5,6 +5,7 @@ use sizes::Sizes;
 ghost use mathlib.Core.Path.{_≡_};
 ghost use Prim.Native.Nat.{_≤_};
 ghost use Rattle.bound.specs.Axes.{axis};
+ghost use Rattle.bound.specs.Bound.{maxBound};
 ghost use Rattle.sizes.specs.Sizes.{Sound};
 ghost use Rattle.grid.specs.Grid.{gridOf};
 
@@ -17,7 +18,7 @@ pub struct Grid {
 // The smaller of 2^n and L(m). From n = 7 on 2^n is above every bound.
 fn axis(m: u64, n: u64) -> u64
     requires { ⌜ (1 ≤ m) × (m ≤ 64) ⌝ }
-    ensures { λ r. ⌜ (r ≡ axis m n) × (r ≤ 66) ⌝ }
+    ensures { λ r. ⌜ (r ≡ axis m n) × (r ≤ maxBound) ⌝ }
 {
     let most = bound(m);
     if 7 <= n {

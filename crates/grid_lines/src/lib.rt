@@ -18,8 +18,9 @@ pub struct Counts {
     pub c2: usize,
 }
 
-// How many of the first lanes agree in the outputs at every value of the last input below its axis, each file with
-// rows of its own. The input rows before the last hold the other inputs of each lane. All lanes are on the grid.
+// A count of first lanes that agree in the outputs at every value of the last input below its axis; that the lane after
+// them does not is not promised. Each file has rows of its own. The input rows before the last hold the other inputs of
+// each lane. All lanes are on the grid.
 fn agreeing_apart(
     file1: &[u8],
     file2: &[u8],

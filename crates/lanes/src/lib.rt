@@ -53,7 +53,7 @@ fn step_row(file: &[u8], n: usize, inputs: &[u64], rows: &mut [u64], k: usize, w
     }
 }
 
-// All rows become the values of the steps.
+// All rows become the values of the steps modulo 2^m.
 fn all_rows(file: &[u8], n: usize, inputs: &[u64], rows: &mut [u64], w: usize)
     requires { ⌜ Room w (now file) n (now inputs) (now rows) ⌝ }
     requires { ⌜ LanesOnGrid w (now file) (now inputs) ⌝ }
@@ -66,7 +66,7 @@ fn all_rows(file: &[u8], n: usize, inputs: &[u64], rows: &mut [u64], w: usize)
     }
 }
 
-// All rows become the values of the steps. In every lane the vector is on the grid.
+// All rows become the values of the steps modulo 2^m. In every lane the vector is on the grid.
 pub fn run_all(file: &[u8], n: usize, inputs: &[u64], rows: &mut [u64], w: usize)
     requires { ⌜ Room w (now file) n (now inputs) (now rows) ⌝ }
     requires { ⌜ LanesOnGrid w (now file) (now inputs) ⌝ }
@@ -104,9 +104,9 @@ fn listed_rows(
     }
 }
 
-// The rows of the listed steps alone are computed again. Where the rows hold the values at a vector, and every step
-// that is not listed does not depend on input j, they then hold the values at a vector that differs from it in input
-// j.
+// The rows of the listed steps alone are computed again. Where the rows hold the values at a vector, modulo 2^m, and
+// every step that is not listed does not depend on input j, they then hold the values at a vector that differs from
+// it in input j.
 pub fn run_listed(
     file: &[u8],
     n: usize,

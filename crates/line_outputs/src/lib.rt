@@ -69,8 +69,8 @@ pub fn save_outputs(
     }
 }
 
-// How many of the first lanes show the outputs of a file in the saved rows, at every value of the last input below
-// its axis.
+// A count of first lanes that show the outputs of a file in the saved rows, at every value of the last input below its
+// axis; that the lane after them does not is not promised.
 pub fn matching_lanes(
     file: &[u8],
     along: Along,

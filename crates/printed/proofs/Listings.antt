@@ -1,4 +1,4 @@
--- The texts of the table are what is printed: one test over the whole table computes each.
+-- The texts of the tables are what is printed: one test over each whole table computes them.
 use mathlib.Core.Path.{refl}
 use Rattle.bound.specs.Axes.{axis}
 use Rattle.bound.specs.Bound.{bound, bounds}
@@ -17,17 +17,25 @@ use Rattle.datapath.specs.Steps.{stepValue, values, exact, output}
 use Rattle.grid_theorem.specs.Comparison.{differsAt, firstDifference}
 use Rattle.words.specs.Bytes.{little}
 use Rattle.text.specs.Decimal.{digitsOf, decimal}
-use Rattle.printed.specs.Listings.{a·dp, b·dp, listingTable, Listings}
+use Rattle.printed.specs.Listings.{a·dp, b·dp, listingTable, Listings, refusedTable, RefusedListings}
 use Rattle.printed.specs.Report.{gridText, verdictText, printed}
 use Rattle.text.specs.Text.{spaced}
 use Rattle.printed.specs.Lines.{refusalLine, gridLine, differLine, equivalentLine, runLine}
 
-pub listings : Listings
-unfolding listingTable a·dp b·dp printed gridText verdictText gridLine differLine equivalentLine runLine refusalLine spaced decimal digitsOf
+-- both tables at once
+computed : Listings × RefusedListings
+unfolding listingTable refusedTable a·dp b·dp
+    printed gridText verdictText gridLine differLine equivalentLine runLine refusalLine spaced decimal digitsOf
     opened noSession pairRefusal sameSizes outputOf stop firstPlace
     refusalOf shownStep fileNumber headFault tooShort badOutput badInputs badCount badWidths widthRule badLength
     faultyStep faultyAt stepFault badOperation badArgument argumentRule operandsRule
     sizesOf stepCount operation argument little stepsOf stepsFrom stepAt decoded
     axesOf gridSize tooLarge axis bound bounds size vectorAt
     every first firstDifference differsAt output exact values stepValue remainder
-listings = refl
+computed = (refl, refl)
+
+pub listings : Listings
+listings = computed .0
+
+pub refusedListings : RefusedListings
+refusedListings = computed .1

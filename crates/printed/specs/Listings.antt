@@ -1,11 +1,15 @@
 -- Texts that are to be printed, byte by byte.
 --   Listing       two files, and the text that is to be printed of them
 --   listingTable  the table: document 01's files a.dp and b.dp ('Pairs'), b.dp with itself, and two empty files
---   Listings      each text is what is printed. It is proved in proofs/Listings, by one test over the whole table
+--   Listings      each text is what is printed
+--   Refused       two files that are refused, with the refusal's number, file and step
+--   refusedTable  the table: document 01's files, damaged so that each of 1 to 9 refuses one or the other, and so that two conditions hold
+--   RefusedListings  of each the line of that refusal is printed
+-- Both are proved in proofs/Listings, by one test over the whole table.
 use mathlib.Core.Path.{_≡_}
 use mathlib.Core.List.{List, [], _∷_, _++_, map}
-use Prim.Native.Nat.{ℕ}
-use lib.ListN.{replicate}
+use Prim.Native.Nat.{ℕ, _+_}
+use lib.ListN.{replicate, set, take}
 use Rattle.printed.specs.Report.{printed}
 
 pub record Listing : Type 0 where
@@ -56,3 +60,50 @@ listingTable =
 
 abbrev pub Listings : Type 0
 Listings = map (λ (l : Listing). printed (l .file₁) (l .file₂)) listingTable ≡ map (λ (l : Listing). l .text) listingTable
+
+pub record Refused : Type 0 where
+  pub file₁ : List ℕ
+  pub file₂ : List ℕ
+  pub number : ℕ
+  pub file : ℕ
+  pub step : ℕ
+
+-- the line of a refusal whose number, file and step have one digit each
+abbrev pub refusedBytes : Refused → List ℕ
+refusedBytes r =
+    0x72 ∷ 0x65 ∷ 0x66 ∷ 0x75 ∷ 0x73 ∷ 0x65 ∷ 0x64 ∷ 0x20 ∷ (0x30 + r .number) ∷ 0x20 ∷ (0x30 + r .file) ∷ 0x20 ∷ (0x30 + r .step) ∷ 0x0a ∷ []
+
+-- two files, and what they are refused by: number, file, step
+abbrev refused : List ℕ → List ℕ → ℕ → ℕ → ℕ → Refused
+refused f₁ f₂ n f k = record { file₁ = f₁; file₂ = f₂; number = n; file = f; step = k }
+
+unfoldable pub refusedTable : List Refused
+refusedTable =
+    -- 1. no byte
+    refused b·dp [] 1 2 0
+    -- 2. m is 0; 3. d is 9; and both
+    ∷ refused (set a·dp 0 0) b·dp 2 1 0
+    ∷ refused b·dp (set b·dp 1 9) 3 2 0
+    ∷ refused (set (set a·dp 0 0) 1 9) b·dp 2 1 0
+    -- 4. N is 0; 5. n2 is 65, an unused byte is 1; and N is 0 and n2 is 65
+    ∷ refused (set a·dp 2 0) b·dp 4 1 0
+    ∷ refused (set a·dp 5 65) b·dp 5 1 0
+    ∷ refused b·dp (set b·dp 11 1) 5 2 0
+    ∷ refused (set (set a·dp 2 0) 5 65) b·dp 4 1 0
+    -- 6. a byte is missing, and with it the operation of step 1 is 6
+    ∷ refused (take 38 (set a·dp 13 6)) b·dp 6 1 0
+    -- 7. the operation of step 1 is 6, and file 2 is empty
+    ∷ refused (set a·dp 13 6) [] 7 1 1
+    -- 8. the right operand of step 2 is itself; its upper half is 1; the index of step 0 is 2, and the operation of step 1 is 6
+    ∷ refused (set a·dp 33 2) b·dp 8 1 2
+    ∷ refused (set a·dp 35 1) b·dp 8 1 2
+    ∷ refused (set (set a·dp 15 2) 13 6) b·dp 8 1 0
+    -- 7 before 8 at one step
+    ∷ refused (set (set a·dp 14 6) 33 2) b·dp 7 1 2
+    -- 9. m is 3 in file 2, n2 is 3 in file 2
+    ∷ refused a·dp (set b·dp 0 3) 9 0 0
+    ∷ refused a·dp (set b·dp 5 3) 9 0 0
+    ∷ []
+
+abbrev pub RefusedListings : Type 0
+RefusedListings = map (λ (r : Refused). printed (r .file₁) (r .file₂)) refusedTable ≡ map refusedBytes refusedTable

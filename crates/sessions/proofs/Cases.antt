@@ -65,8 +65,11 @@ open-inside G p Differ m c = absurd (let q : _≡_ {A = ℕ} 0 1 = cc in omega a
 module _ (s₁ s₂ : List ℕ) (σ : Session) (B len : ℕ) where
   -- what holds of an accepted call
   pub record Passed : Type 0 where
+    pub budget : eqb B 0 ≡ false
     pub pair : isRefusal (pairRefusal s₁ s₂) ≡ false
     pub room : largerCount s₁ s₂ ≤ len
+    pub same : sameSizes (σ .sizes) (sizesOf s₁) ≡ true
+    pub unclosed : isClosed (σ .mark) ≡ false
     pub inside : σ .position < gridSize (sizesOf s₁)
 
   pub passed : isRefusal (continueRefusal s₁ s₂ σ B len) ≡ false → Passed
@@ -79,8 +82,11 @@ module _ (s₁ s₂ : List ℕ) (σ : Session) (B len : ℕ) where
       let p₅ = cond-passed (misplaced (gridSize (sizesOf s₁)) (σ .position) (σ .mark)) (refusedBy 102) _ (λ _. refl) (p₄ .1) in
       let p₆ = cond-passed (isClosed (σ .mark)) (refusedBy 103) (refusedBy 0) (λ _. refl) (p₅ .1) in
       record {
+        budget = p₁ .0;
         pair = p₂ .0;
         room = ltb-false len (largerCount s₁ s₂) (p₃ .0);
+        same = not-false _ (p₄ .0);
+        unclosed = p₆ .0;
         inside = open-inside _ _ (σ .mark) (p₅ .0) (p₆ .0);
       }
 

@@ -3,4 +3,5 @@ pub mod Cases
 pub mod Demand3
 pub mod Pair
 pub mod Step
+pub mod Taken
 pub mod Verdict

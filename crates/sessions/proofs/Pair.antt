@@ -6,16 +6,16 @@ use mathlib.Core.List.{List}
 use Prim.Native.Nat.{ℕ}
 use native.Mathlib.Omega.{arith}
 use lib.Dec.{eqb}
-use lib.ListN.{length, length-take, length-drop}
+use lib.ListN.{length}
 use lib.Seq.{ext-getD}
 use borrow.Author.Tests.{eq-eqb, ne-eqb, eqb-true, not-false}
 use Rattle.engine.specs.Engine.{Comparable}
-use Rattle.file.specs.Accepted.{Accepted}
 use Rattle.file.specs.Check.{fileNumber, refusalOf}
 use Rattle.fields.specs.File.{sizesOf}
 use Rattle.file.proofs.Accepted.{accepted}
 use Rattle.file.proofs.Number.{refusal-number}
 use Rattle.grid.proofs.Axes.{never-large}
+use Rattle.plan.proofs.Axes.{length-widths}
 use Rattle.ranges.proofs.Search.{every-at}
 use Rattle.sizes.specs.Sizes.{maxInputs, refusedBy, isRefusal}
 use Rattle.sizes.specs.declared.Refusal.{Refusal}
@@ -48,8 +48,8 @@ module _ (s₁ s₂ : List ℕ) where
             never-large (sizesOf s₁) (a .outputLow) (a .outputHigh) (a .inputsHigh),
           )
 
--- sizes with eight word lengths that pass the test are equal
-same-equal : (z w : Sizes) → length (z .widths) ≡ maxInputs → length (w .widths) ≡ maxInputs → sameSizes z w ≡ true → z ≡ w
+-- sizes with a word length for each input that a file may have and that pass the test are equal
+pub same-equal : (z w : Sizes) → length (z .widths) ≡ maxInputs → length (w .widths) ≡ maxInputs → sameSizes z w ≡ true → z ≡ w
 unfolding sameSizes
 same-equal z w lz lw e =
     let p = and-eq-true-iff _ _ .0 e in
@@ -58,10 +58,6 @@ same-equal z w lz lw e =
     ext-getD 0 (z .widths) (w .widths) (lz ∙ sym lw)
     (λ i h. eqb-true _ _ (every-at _ 0 maxInputs i (p .1) (omega arith) (omega arith))) in
     λ i. record { m = eqb-true (z .m) (w .m) (q .0) i; d = eqb-true (z .d) (w .d) (q .1) i; widths = widths i }
-
-eight-widths : (s : List ℕ) → Accepted s → length (sizesOf s .widths) ≡ maxInputs
-unfolding sizesOf
-eight-widths s a = rw (length-take, length-drop) (omega (arith, a .long))
 
 -- a condition that would refuse doesn't hold where nothing refuses
 pub cond-passed :
@@ -89,5 +85,5 @@ comparable s₁ s₂ pair =
     record {
       sound₁ = a₁;
       sound₂ = a₂;
-      same = same-equal (sizesOf s₁) (sizesOf s₂) (eight-widths s₁ a₁) (eight-widths s₂ a₂) (not-false _ (p₃ .0));
+      same = same-equal (sizesOf s₁) (sizesOf s₂) (length-widths s₁ a₁) (length-widths s₂ a₂) (not-false _ (p₃ .0));
     }

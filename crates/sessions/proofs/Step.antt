@@ -35,7 +35,7 @@ use Rattle.sessions.specs.declared.Kind.the-variants.{Refused, Spent, Eq
 use Rattle.sessions.specs.declared.Session.{Session}
 
 -- sizes are the same as themselves
-same-refl : (z : Sizes) → sameSizes z z ≡ true
+pub same-refl : (z : Sizes) → sameSizes z z ≡ true
 unfolding sameSizes
 same-refl z =
     simp (eq-eqb (z .m) (z .m) refl, eq-eqb (z .d) (z .d) refl)

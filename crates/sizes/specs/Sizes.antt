@@ -7,9 +7,13 @@
 --   accepts r    the call that answers r is accepted
 --   isRefusal r  and that it is refused
 --   maxInputs    the largest count of inputs, which is also the count of word-length bytes
+--   Ruled z      2, 3 and 5 with no test in them: m is 1 to 64, d is 1 to maxInputs, and each word length keeps its rule
+--   RuledExactly sizes pass the tests 2, 3 and 5 exactly there. Proved in proofs/Ruled
 --   Sound z      m is 1 to 64, and d is at most maxInputs: what a grid asks
-use mathlib.Core.Bool.{Bool, not, cond, _&&_}
-use Prim.Native.Nat.{ℕ, _≤_}
+use mathlib.Core.Bool.{Bool, false, not, cond, _&&_}
+use mathlib.Core.Logic.{_↔_}
+use mathlib.Core.Path.{_≡_}
+use Prim.Native.Nat.{ℕ, _≤_, _<_}
 use lib.Dec.{leb, ltb, eqb}
 use lib.ListN.{getD}
 use Rattle.ranges.specs.Search.{every}
@@ -35,6 +39,19 @@ widthRule z i = cond (ltb i (z .d)) (within 1 64 (getD (z .widths) i 0)) (eqb (g
 
 unfoldable pub badWidths : Sizes → Bool
 badWidths z = not (every (widthRule z) 0 maxInputs)
+
+pub record Ruled (z : Sizes) : Type 0 where
+  pub outputLow : 1 ≤ z .m
+  pub outputHigh : z .m ≤ 64
+  pub inputsLow : 1 ≤ z .d
+  pub inputsHigh : z .d ≤ maxInputs
+  pub widthLow : (i : ℕ) → i < z .d → 1 ≤ getD (z .widths) i 0
+  pub widthHigh : (i : ℕ) → i < z .d → getD (z .widths) i 0 ≤ 64
+  pub widthUnused : (i : ℕ) → z .d ≤ i → i < maxInputs → getD (z .widths) i 0 ≡ 0
+
+abbrev pub RuledExactly : Type 0
+RuledExactly =
+    (z : Sizes) → ((badOutput z ≡ false) × ((badInputs z ≡ false) × (badWidths z ≡ false))) ↔ Ruled z
 
 abbrev pub Sound : Sizes → Type 0
 Sound z = ((1 ≤ z .m) × (z .m ≤ 64)) × (z .d ≤ maxInputs)

@@ -50,8 +50,8 @@ fn lines_from(p: u64, u: u64, stop: u64, wide: u64) -> u64
 }
 
 // The first place of the span at which the outputs differ, or its end where there is none. Where the span has as many
-// whole lines as there are lanes, these go together; what stands before and after them, and a line with a difference,
-// goes in batches.
+// whole lines as there are lanes, or more, lines go together, as many at a time; what stands before and after them, and
+// a line with a difference, goes in batches.
 pub fn by_lines(
     file1: &[u8],
     file2: &[u8],

@@ -1,0 +1,38 @@
+-- Which calls opening and continuing take, as orders and equations, with no test in them. Each statement is proved in proofs/Taken.
+--   OpenExactly       opening answers the number 0 exactly where both files are accepted and have the same sizes
+--   ContinueTaken     what a continue call asks:
+--     budget      the budget is not 0
+--     files       both files are accepted, and have the same sizes
+--     room        the scratch slice has as many entries as the larger N
+--     sizes       the session's sizes are the files'
+--     mark        it is open
+--     position    its position is below G
+--   ContinueExactly   continuing answers the number 0 exactly there, of sessions with a word length for each input that a file may have
+use mathlib.Core.List.{List}
+use mathlib.Core.Logic.{_↔_}
+use mathlib.Core.Path.{_≡_}
+use Prim.Native.Nat.{ℕ, _≤_, _<_}
+use lib.ListN.{length}
+use Rattle.engine.specs.Engine.{largerCount, Comparable}
+use Rattle.fields.specs.File.{sizesOf}
+use Rattle.grid.specs.Grid.{gridSize}
+use Rattle.sizes.specs.Sizes.{maxInputs}
+use Rattle.sessions.specs.Session.{opened, continued}
+use Rattle.sessions.specs.declared.Mark.the-variants.{Open}
+use Rattle.sessions.specs.declared.Session.{Session}
+
+abbrev pub OpenExactly : Type 0
+OpenExactly = (s₁ s₂ : List ℕ) → (opened s₁ s₂ .refusal .number ≡ 0) ↔ Comparable s₁ s₂
+
+pub record ContinueTaken (s₁ s₂ : List ℕ) (σ : Session) (B len : ℕ) : Type 0 where
+  pub budget : 1 ≤ B
+  pub files : Comparable s₁ s₂
+  pub room : largerCount s₁ s₂ ≤ len
+  pub sizes : σ .sizes ≡ sizesOf s₁
+  pub mark : σ .mark ≡ Open
+  pub position : σ .position < gridSize (sizesOf s₁)
+
+abbrev pub ContinueExactly : Type 0
+ContinueExactly =
+    (s₁ s₂ : List ℕ) (σ : Session) (B len : ℕ) → length (σ .sizes .widths) ≡ maxInputs →
+    (continued s₁ s₂ σ B len .answer .refusal .number ≡ 0) ↔ ContinueTaken s₁ s₂ σ B len

@@ -1,4 +1,5 @@
 pub mod Calls
 pub mod Demand3
+pub mod Position
 pub mod Session
 pub mod Taken

@@ -18,6 +18,7 @@ use sizes::refused_by;
 use sizes::within;
 use slices::clear;
 ghost use mathlib.Core.Path.{_≡_};
+ghost use Rattle.fields.specs.File.{sizesOf};
 ghost use Rattle.plan.specs.Plan.{Planned};
 ghost use Rattle.sessions.specs.Session.{stateRefusal, roomRefusal, filesRefusal, refusedAnswer};
 ghost use Rattle.continuing.specs.Continuing.{Continues};
@@ -63,16 +64,24 @@ fn files_refusal(file1: &[u8], file2: &[u8], budget: u64) -> Refusal
     pair_refusal(file1, file2)
 }
 
-// What a continue call with a scratch slice of `room` entries is refused by where its files and its budget are
-// accepted: 12, 101, 102, 103, or nothing.
-fn room_refusal(file1: &[u8], file2: &[u8], plan: Plan, session: Session, room: usize) -> Refusal
+// What a continue call with a scratch slice of `room` entries is refused by where its files, which have these sizes,
+// and its budget are accepted: 12, 101, 102, 103, or nothing.
+fn room_refusal(
+    file1: &[u8],
+    file2: &[u8],
+    sizes: Sizes,
+    plan: Plan,
+    session: Session,
+    room: usize,
+) -> Refusal
     requires { ⌜ Planned (now file1) (now file2) plan ⌝ }
+    requires { ⌜ sizes ≡ sizesOf (now file1) ⌝ }
     ensures { λ r. ⌜ r ≡ roomRefusal (now (file1 .entry)) (now (file2 .entry)) session room ⌝ }
 {
     if room < larger(plan.n1, plan.n2) {
         return refused_by(12);
     }
-    state_refusal(read_sizes(file1), plan.size, session)
+    state_refusal(sizes, plan.size, session)
 }
 
 // An answer that refuses.
@@ -113,8 +122,9 @@ pub fn continue_session(
         let answer = refused_answer(refusal);
         return Continued { session, answer };
     }
-    let plan = plan_of(file1, file2);
-    let later = room_refusal(file1, file2, plan, session, scratch.len());
+    let sizes = read_sizes(file1);
+    let plan = plan_of(file1, file2, sizes);
+    let later = room_refusal(file1, file2, sizes, plan, session, scratch.len());
     let second = later.number;
     if second != 0 {
         let answer = refused_answer(later);

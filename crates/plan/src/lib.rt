@@ -1,9 +1,10 @@
 // What is read of two comparable files once a call.
-use fields::read_sizes;
 use fields::step_count;
 use grid::grid_of;
 use sizes::INPUTS;
+use sizes::Sizes;
 ghost use mathlib.Core.Path.{_≡_};
+ghost use Rattle.fields.specs.File.{sizesOf};
 ghost use Rattle.plan.specs.Comparison.{Comparable};
 ghost use Rattle.plan.specs.Plan.{planOf};
 
@@ -24,12 +25,12 @@ pub struct Span {
     pub end: u64,
 }
 
-// The plan of two comparable files.
-pub fn plan_of(file1: &[u8], file2: &[u8]) -> Plan
+// The plan of two comparable files, given the sizes of file 1, which file 2 has too.
+pub fn plan_of(file1: &[u8], file2: &[u8], z: Sizes) -> Plan
     requires { ⌜ Comparable (now file1) (now file2) ⌝ }
+    requires { ⌜ z ≡ sizesOf (now file1) ⌝ }
     ensures { λ r. ⌜ r ≡ planOf (now (file1 .entry)) (now (file2 .entry)) ⌝ }
 {
-    let z = read_sizes(file1);
     let g = grid_of(z);
     let axes = g.axes;
     Plan {

@@ -10,6 +10,7 @@ use borrow.Author.Tests.{eq-eqb, ne-eqb}
 use denote.Ref.{now}
 use lib.ListN.{length, drop, replicate}
 use Rattle.engine.specs.Engine.{largerCount}
+use Rattle.plan.specs.Comparison.{Comparable}
 use Rattle.plan.specs.Plan.{Planned}
 use Rattle.plan.proofs.Numbers as plan
 use Rattle.sessions.specs.Session.{filesRefusal, continueRefusal, refusedAnswer}
@@ -26,23 +27,26 @@ abbrev entry : tie.Else1 → tie.Start
 entry c = c .before .before .before .before .before
 
 abbrev judged : tie.Else2 → tie.Else1
-judged c = c .before .before .before
+judged c = c .before .before .before .before
 
 -- the files pass
 free : (c : tie.Else1) → let a = entry c .args in isRefusal (filesRefusal (now (a .file1)) (now (a .file2)) (a .budget)) ≡ false
 free c = rw (eq-eqb _ 0 (sym (ap (λ (r : Refusal). r .number) (c .before .files-refusal .ensures)) ∙ c .if1 .left))
 
-planned : (c : tie.After-plan-of) → let a = entry (c .before) .args in Planned (now (a .file1)) (now (a .file2)) (c .plan-of .result)
-planned c =
-    let a = entry (c .before) .args in
-    record { files = comparable _ _ (cases.files-passed _ _ (a .session) _ (length (now (a .scratch))) (free (c .before))); plan = c .plan-of .ensures }
+both : (c : tie.Else1) → let a = entry c .args in Comparable (now (a .file1)) (now (a .file2))
+both c =
+    let a = entry c .args in
+    comparable _ _ (cases.files-passed _ _ (a .session) _ (length (now (a .scratch))) (free c))
+
+planned : (c : tie.After-plan-of) → let a = entry (c .before .before) .args in Planned (now (a .file1)) (now (a .file2)) (c .plan-of .result)
+planned c = record { files = both (c .before .before); plan = c .plan-of .ensures }
 
 -- the refusal of the call is that of the room and the state
 later :
     (c : tie.After-room-refusal) →
-    let a = entry (c .before .before) .args in
+    let a = entry (c .before .before .before) .args in
     c .room-refusal .result ≡ continueRefusal (now (a .file1)) (now (a .file2)) (a .session) (a .budget) (length (now (a .scratch)))
-later c = c .room-refusal .ensures ∙ sym (cases.refused-by-room _ _ _ _ _ (free (c .before .before)))
+later c = c .room-refusal .ensures ∙ sym (cases.refused-by-room _ _ _ _ _ (free (c .before .before .before)))
 
 accepting :
     (c : tie.Else2) →
@@ -80,20 +84,21 @@ returns c =
       scratch = scratch-refused _ _ _ _ _ t;
     }
 
+read-sizes-requires : tie.Need-read-sizes-requires
+read-sizes-requires c κs = both c .sound₁ .long
+
 plan-of-requires : tie.Need-plan-of-requires
-plan-of-requires c κs =
-    let a = entry c .args in
-    comparable _ _ (cases.files-passed _ _ (a .session) _ (length (now (a .scratch))) (free c))
+plan-of-requires c κs = (both (c .before), c .read-sizes .ensures)
 
 room-refusal-requires : tie.Need-room-refusal-requires
-room-refusal-requires c κs = planned c
+room-refusal-requires c κs = (planned c, c .before .read-sizes .ensures)
 
 refused-answer-requires-2 : tie.Need-refused-answer-requires-2
 refused-answer-requires-2 c κs = search needs
 
 returns-2 : tie.Need-returns-2
 returns-2 c =
-    let a = entry (c .before .before .before .before) .args in
+    let a = entry (c .before .before .before .before .before) .args in
     let e = later (c .before .before) in
     let t : isRefusal (continueRefusal (now (a .file1)) (now (a .file2)) (a .session) (a .budget) (length (now (a .scratch)))) ≡ true =
     rw (ne-eqb _ 0 (λ q. c .before .if2 .taken (ap (λ (r : Refusal). r .number) e ∙ q))) in
@@ -142,6 +147,7 @@ continue-session-spec =
     files-refusal-requires
     refused-answer-requires
     returns
+    read-sizes-requires
     plan-of-requires
     room-refusal-requires
     refused-answer-requires-2

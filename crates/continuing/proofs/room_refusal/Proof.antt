@@ -22,26 +22,23 @@ returns : tie.Need-returns
 returns c =
     let entry = c .before .before .before .before .before in
     let a = entry .args in
-    let k = entry .pre in
+    let k = entry .pre .0 in
     let n = c .before .before .larger .ensures ∙ ap₂ max (plan.count₁ k) (plan.count₂ k) in
     c .refused-by .ensures ∙ rw (lt-ltb (a .room) (largerCount (now (a .file1)) (now (a .file2))) (omega (arith, c .before .if1 .taken, n)))
-
-read-sizes-requires : tie.Need-read-sizes-requires
-read-sizes-requires c κs = c .before .before .before .before .pre .files .sound₁ .long
 
 state-refusal-requires : tie.Need-state-refusal-requires
 state-refusal-requires c κs = search needs
 
 returns-2 : tie.Need-returns-2
 returns-2 c =
-    let entry = c .before .before .before .before .before .before in
+    let entry = c .before .before .before .before .before in
     let a = entry .args in
-    let k = entry .pre in
-    let n = c .before .before .before .larger .ensures ∙ ap₂ max (plan.count₁ k) (plan.count₂ k) in
+    let k = entry .pre .0 in
+    let n = c .before .before .larger .ensures ∙ ap₂ max (plan.count₁ k) (plan.count₂ k) in
     c .state-refusal .ensures
-    ∙ ap₂ (λ w G. stateRefusal w G (a .session)) (c .before .read-sizes .ensures) (plan.vectors k)
-    ∙ rw (le-ltb (a .room) (largerCount (now (a .file1)) (now (a .file2))) (omega (arith, c .before .before .if1 .left, n)))
+    ∙ ap₂ (λ w G. stateRefusal w G (a .session)) (entry .pre .1) (plan.vectors k)
+    ∙ rw (le-ltb (a .room) (largerCount (now (a .file1)) (now (a .file2))) (omega (arith, c .before .if1 .left, n)))
 
 pub room-refusal-spec : {M : Type 1} → statement M
 room-refusal-spec =
-    tie.close (tie.spec larger-requires refused-by-requires returns read-sizes-requires state-refusal-requires returns-2)
+    tie.close (tie.spec larger-requires refused-by-requires returns state-refusal-requires returns-2)

@@ -19,13 +19,11 @@ planned :
 unfolding planOf
 planned s₁ s₂ z g n₁ n₂ e f c₁ c₂ = rw (c₁, c₂, f, e)
 
-read-sizes-requires : tie.Need-read-sizes-requires
-read-sizes-requires c κs = search needs
-
 grid-of-requires : tie.Need-grid-of-requires
 grid-of-requires c κs =
-    let a = c .before .before .before .pre .sound₁ in
-    rw (c .read-sizes .ensures) ((a .outputLow, a .outputHigh), a .inputsHigh)
+    let p = c .before .before .pre in
+    let a = p .0 .sound₁ in
+    rw (p .1) ((a .outputLow, a .outputHigh), a .inputsHigh)
 
 step-count-requires : tie.Need-step-count-requires
 step-count-requires c κs = search needs
@@ -41,14 +39,13 @@ cast-t9 c = search needs
 
 returns : tie.Need-returns
 returns c =
-    planned _ _ _ _ _ _ (c .before .before .before .before .before .before .read-sizes .ensures) (c .before .before .before .before .before .grid-of .ensures)
-    (c .before .before .before .step-count .ensures .0) (c .before .before .step-count2 .ensures .0)
+    let g = c .before .before .before .before .before in
+    planned _ _ _ _ _ _ (g .before .before .before .pre .1) (g .grid-of .ensures) (c .before .before .before .step-count .ensures .0) (c .before .before .step-count2 .ensures .0)
 
 pub plan-of-spec : {M : Type 1} → statement M
 plan-of-spec =
     tie.close
     (tie.spec
-    read-sizes-requires
     grid-of-requires
     step-count-requires
     step-count-requires-2

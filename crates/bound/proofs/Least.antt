@@ -31,16 +31,16 @@ all-between : every between 0 64 ≡ true
 unfolding every between bounds
 all-between = refl
 
-bound-between : (m : ℕ) → 1 ≤ m → m ≤ 64 → (leb 1 (bound m) ≡ true) × (leb (bound m) maxBound ≡ true)
+bound-range : (m : ℕ) → 1 ≤ m → m ≤ 64 → (leb 1 (bound m) ≡ true) × (leb (bound m) maxBound ≡ true)
 unfolding bound between
-bound-between m low high =
+bound-range m low high =
     and-eq-true-iff _ _ .0 (every-at between 0 64 (m - 1) all-between (omega arith) (omega arith))
 
 pub bound-least : (m : ℕ) → 1 ≤ m → m ≤ 64 → 1 ≤ bound m
-bound-least m low high = leb-true _ _ (bound-between m low high .0)
+bound-least m low high = leb-true _ _ (bound-range m low high .0)
 
 pub bound-most : (m : ℕ) → 1 ≤ m → m ≤ 64 → bound m ≤ maxBound
-bound-most m low high = leb-true _ _ (bound-between m low high .1)
+bound-most m low high = leb-true _ _ (bound-range m low high .1)
 
 -- the bound of m is entry m − 1
 pub leastBound : LeastBound

@@ -45,8 +45,8 @@ pub record Skipped (σ : Session) (c : Made) : Type 0 where
   pub kept : c .session′ ≡ sessionWords σ
 
 -- a call that returned 0 counts for nothing
-not-1 : (c : Made) → c .result ≡ 0 → returned1 c ≡ false
-not-1 c e = ne-eqb (c .result) 1 (λ q. omega arith)
+returned1-wrong : (c : Made) → c .result ≡ 0 → returned1 c ≡ false
+returned1-wrong c e = ne-eqb (c .result) 1 (λ q. omega arith)
 
 either : (b : Bool) (n : ℕ) → cond b n 0 ≡ cond (not b) 0 n
 either true n = refl
@@ -170,13 +170,13 @@ module _ {σ : Session} {c : Made} (a : Answered σ c) where
 pub budgets-told : {σ : Session} {cs : List Made} {ks : List Call} → Mirror σ cs ks → budgets cs ≡ acceptedBudgets σ ks
 unfolding budgets acceptedBudgets
 budgets-told none = refl
-budgets-told (skipped {c = c} s m) = rw (not-1 c (s .wrong), zero-add) (budgets-told m)
+budgets-told (skipped {c = c} s m) = rw (returned1-wrong c (s .wrong), zero-add) (budgets-told m)
 budgets-told (answered a m) = ap₂ _+_ (budget-told a) (budgets-told m)
 
 pub runs-told : {σ : Session} {cs : List Made} {ks : List Call} → Mirror σ cs ks → runs cs ≡ vectorsRun (answers σ ks)
 unfolding runs answers vectorsRun
 runs-told none = refl
-runs-told (skipped {c = c} s m) = rw (not-1 c (s .wrong), zero-add) (runs-told m)
+runs-told (skipped {c = c} s m) = rw (returned1-wrong c (s .wrong), zero-add) (runs-told m)
 runs-told (answered a m) = ap₂ _+_ (vectors-told a) (runs-told m)
 
 -- what holds of each answer, of each call

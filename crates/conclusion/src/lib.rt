@@ -26,15 +26,15 @@ pub fn conclude(file1: &[u8], file2: &[u8], session: Session, scratch: &mut [u64
     requires { ⌜ length (now scratch) ≡ maxSteps ⌝ }
     ensures { λ r. ⌜ Concluded (now (file1 .entry)) (now (file2 .entry)) (r .answer) (r .run) ⌝ }
 {
-    let mut held = session;
+    let mut current = session;
     let mut run: u64 = 0;
     loop {
-        let next = continue_session(file1, file2, held, BUDGET, scratch);
+        let next = continue_session(file1, file2, current, BUDGET, scratch);
         let answer = next.answer;
         let more = answer.run;
-        held = next.session;
+        current = next.session;
         run += more;
-        let mark = held.mark;
+        let mark = current.mark;
         let Mark::Open = mark else {
             return Conclusion { answer, run };
         };

@@ -29,10 +29,10 @@ ghost use Rattle.continuing.specs.Continuing.{Continues};
 fn state_refusal(sizes: Sizes, size: u64, session: Session) -> Refusal
     ensures { λ r. ⌜ r ≡ stateRefusal sizes size session ⌝ }
 {
-    let held = session.sizes;
+    let own = session.sizes;
     let position = session.position;
     let mark = session.mark;
-    if !same_sizes(held, sizes) {
+    if !same_sizes(own, sizes) {
         return refused_by(101);
     }
     match mark {

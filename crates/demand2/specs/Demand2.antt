@@ -1,5 +1,5 @@
 -- Demand 2, as claims about the calls: summing the table of a file returns its outputs on the grid, and differencing those returns the
--- table. Each is proved in proofs/, under the same name in lower case.
+-- table. Each is proved in proofs/, under the same name with a small first letter.
 --   SumOfMade         a table that was made of a file is taken by summing, and gives the file's outputs at every vector of the grid, in order
 --   DifferenceOfSum   the outputs that any accepted table gives are taken by differencing, and give the table
 --   SumOfDifference   the table that any accepted outputs give is taken by summing, and gives the outputs

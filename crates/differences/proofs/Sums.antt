@@ -1,6 +1,6 @@
 -- The sum of a table at a vector x, cell by cell in the order of the places, is the mixed sum of neighbours, x_i times for input i.
--- The places of a grid with a first axis are rows of the grid of the later axes, so the sum over all places is one over the rows: for row k
--- the binomial (x_1 choose k) times the sum of the row. By induction on the axes.
+-- The places of a grid with a first axis are layers, each a grid of the later axes, so the sum over all places is one over the layers: for layer k
+-- the binomial (x_1 choose k) times the sum of the layer. By induction on the axes.
 use mathlib.Core.Path.{_≡_, _∙_, ap, fun-ext}
 use mathlib.Core.List.{List, [], _∷_}
 use Prim.Native.Nat.{ℕ, zero, suc, _+_, _*_, _≤_}
@@ -16,27 +16,27 @@ use Rattle.differences.specs.Statement.{total}
 use Rattle.differences.specs.Table.{choose, binomials, given, sumBelow}
 use Rattle.differences.proofs.Binomials.{total-equal, combined-binomial}
 
--- the first j places of row k
-sum-row :
+-- the first j places of layer k
+sum-layer :
     (u : ℕ) (us c : List ℕ) (x : ℕ) (xs : List ℕ) (k j : ℕ) → j ≤ size us
     → sumBelow (u ∷ us) c (x ∷ xs) (k * size us + j)
     ≡ sumBelow (u ∷ us) c (x ∷ xs) (k * size us) + choose x k * sumBelow us (drop (k * size us) c) xs j
 unfolding sumBelow binomials vectorAt
-sum-row u us c x xs k zero l = rw add-zero (omega arith)
-sum-row u us c x xs k (suc j) l =
+sum-layer u us c x xs k zero l = rw add-zero (omega arith)
+sum-layer u us c x xs k (suc j) l =
     ap (sumBelow (u ∷ us) c (x ∷ xs)) (add-suc (k * size us) j)
-    ∙ rw (digits-div k l, digits-mod k l, getD-drop (k * size us) c j 0) (omega (arith, sum-row u us c x xs k j (omega arith)))
+    ∙ rw (digits-div k l, digits-mod k l, getD-drop (k * size us) c j 0) (omega (arith, sum-layer u us c x xs k j (omega arith)))
 
-sum-rows :
+sum-layers :
     (u : ℕ) (us c : List ℕ) (x : ℕ) (xs : List ℕ) (n : ℕ)
     → pos (sumBelow (u ∷ us) c (x ∷ xs) (n * size us))
     ≡ total (λ (k : ℕ). pos (choose x k) *ℤ pos (sumBelow us (drop (k * size us) c) xs (size us))) n
 unfolding sumBelow total
-sum-rows u us c x xs zero = ap (λ (q : ℕ). pos (sumBelow (u ∷ us) c (x ∷ xs) q)) (zero-mul (size us))
-sum-rows u us c x xs (suc n) =
+sum-layers u us c x xs zero = ap (λ (q : ℕ). pos (sumBelow (u ∷ us) c (x ∷ xs) q)) (zero-mul (size us))
+sum-layers u us c x xs (suc n) =
     ap (λ (q : ℕ). pos (sumBelow (u ∷ us) c (x ∷ xs) q)) (suc-mul n (size us))
-    ∙ ap pos (sum-row u us c x xs n (size us) (omega arith))
-    ∙ ap (λ (a : ℤ). a +ℤ pos (choose x n) *ℤ pos (sumBelow us (drop (n * size us) c) xs (size us))) (sum-rows u us c x xs n)
+    ∙ ap pos (sum-layer u us c x xs n (size us) (omega arith))
+    ∙ ap (λ (a : ℤ). a +ℤ pos (choose x n) *ℤ pos (sumBelow us (drop (n * size us) c) xs (size us))) (sum-layers u us c x xs n)
 
 pub sum-mixed :
     (us c x : List ℕ) → Below us x → pos (sumBelow us c x (size us)) ≡ mixed (pos 1) x (given us c)
@@ -45,7 +45,7 @@ sum-mixed [] c [] b = ap pos (omega arith)
 sum-mixed [] c (x ∷ xs) b = absurd b
 sum-mixed (u ∷ us) c [] b = absurd b
 sum-mixed (u ∷ us) c (x ∷ xs) b =
-    sum-rows u us c x xs u
+    sum-layers u us c x xs u
     ∙ total-equal u _ _
     (λ k _.
     ap (λ (a : ℤ). pos (choose x k) *ℤ a)

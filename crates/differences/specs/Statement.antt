@@ -1,5 +1,5 @@
 -- What is claimed of difference tables and sums, for every modulus M above 0 and all axes. Each statement is proved in proofs/, under the
--- same name in lower case.
+-- same name with a small first letter.
 --   ClosedForm      one input: the p-fold difference at x is the alternating sum of document 002, formula (7)
 --   SumOfTable      the table of a function, summed, is the function at every vector of the grid, modulo M
 --   SumOfDifferences  for every list of outputs below M, summing its differences returns the outputs

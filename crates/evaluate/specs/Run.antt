@@ -37,7 +37,7 @@ pub record Ready (s : List ℕ) (n : ℕ) (x scratch : List ℕ) : Type 0 where
 pub record Running (s : List ℕ) (n : ℕ) (x scratch : List ℕ) (k : ℕ) : Type 0 where
   pub ready : Ready s n x scratch
   pub passed : k ≤ n
-  pub held : take k scratch ≡ map word (values (stepsOf s) x k)
+  pub words : take k scratch ≡ map word (values (stepsOf s) x k)
 
 pub record OutputAt (s : List ℕ) (n : ℕ) (x before : List ℕ) (r : ℕ) (after : List ℕ) : Type 0 where
   pub output : r ≡ outputOf s x

@@ -27,6 +27,14 @@ pub const STEPS: usize = 1024;
 // Where the word lengths of the inputs begin.
 const WIDTHS: usize = 4;
 
+// m alone, the output word length.
+pub fn output_length(file: &[u8]) -> u64
+    requires { ⌜ headLength ≤ length (now file) ⌝ }
+    ensures { λ r. ⌜ r ≡ sizesOf (now (file .entry)) .m ⌝ }
+{
+    file[0] as u64
+}
+
 // m, d and the word lengths.
 pub fn read_sizes(file: &[u8]) -> Sizes
     requires { ⌜ headLength ≤ length (now file) ⌝ }
@@ -39,18 +47,10 @@ pub fn read_sizes(file: &[u8]) -> Sizes
         i += 1;
     }
     Sizes {
-        m: file[0],
+        m: output_length(file) as u8,
         d: file[1],
         widths,
     }
-}
-
-// m alone, the output word length.
-pub fn output_length(file: &[u8]) -> u64
-    requires { ⌜ headLength ≤ length (now file) ⌝ }
-    ensures { λ r. ⌜ r ≡ sizesOf (now (file .entry)) .m ⌝ }
-{
-    file[0] as u64
 }
 
 // N, the count of steps.

@@ -1,9 +1,9 @@
 -- The conditions that a file meets, each under document 01's number ('Refused because of the input'), and what checking a file answers.
 --   maxSteps          the largest N
---   tooShort          1. the file is under 12 bytes
+--   tooShort          1. the file is shorter than a head
 --   badOutput, badInputs, badWidths of its sizes   2, 3, 5
---   badCount          4. N is not 1 to 1,024
---   badLength         6. the length is not 12 + 9N
+--   badCount          4. N is not 1 to maxSteps
+--   badLength         6. the length is not headLength + 9N
 --   badOperation      7. the operation byte of step k is not 1 to 5
 --   badArgument       8. the argument of step k breaks its rule
 --   stepFault s k     7 or 8, the first that holds at step k, or 0

@@ -1,5 +1,5 @@
 -- What conditions 1 to 6 leave for the steps of a file.
---   Headed s z n   z are the sizes of s, n is its count of steps, and its length is 12 + 9N
+--   Headed s z n   z are the sizes of s, n is its count of steps, and its length is headLength + 9N
 use mathlib.Core.List.{List}
 use mathlib.Core.Path.{_≡_}
 use Prim.Native.Nat.{ℕ, _+_, _*_}

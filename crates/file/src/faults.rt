@@ -75,7 +75,7 @@ fn argument_rule(z: Sizes, k: usize, o: u8, a: u64) -> bool
     operands_rule(k, a)
 }
 
-// Condition 7 or 8, the first that holds at step k, or 0. The sizes and N are the file's, and its length is 12 + 9N.
+// Condition 7 or 8, the first that holds at step k, or 0. The sizes and N are the file's, and its length is HEAD + 9N.
 pub fn step_fault(file: &[u8], z: Sizes, n: usize, k: usize) -> u64
     requires { ⌜ Headed (now file) z n × (k < n) ⌝ }
     ensures { λ r. ⌜ r ≡ stepFault (now (file .entry)) k ⌝ }

@@ -49,7 +49,7 @@ pub fn check(file: &[u8]) -> Refusal
     check_as(file, 1)
 }
 
-// The operation bytes: the stretch of the caller's slice itself from byte 12 on, N bytes long. Of a refused file it
+// The operation bytes: the stretch of the caller's slice itself after the head, N bytes long. Of a refused file it
 // is empty.
 pub fn operations(file: &[u8]) -> &[u8]
     ensures { λ r. ⌜ Stretch (file .entry) r ⌝ }

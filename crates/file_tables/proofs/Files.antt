@@ -91,7 +91,7 @@ module _ (s : List ℕ) (a : Accepted s) (z : Sizes) (ez : z ≡ sizesOf s) (g :
         some = omega (arith, grid-least z sizes-sound, ap gridSize ez, same-size);
         counted = same-size ∙ ap gridSize (sym ez) ∙ ap size (sym same-axes);
         room = omega arith;
-        held = omega (arith, same-size);
+        tableRoom = omega (arith, same-size);
       }
 
   -- the outputs over the grid, differenced in place

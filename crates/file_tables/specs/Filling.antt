@@ -28,7 +28,7 @@ pub record Filling (s : List ℕ) (n : ℕ) (axes : List ℕ) (d count : ℕ) (w
   pub some : 0 < count
   pub counted : count ≡ size (take d axes)
   pub room : n ≤ length w
-  pub held : count ≤ length t
+  pub tableRoom : count ≤ length t
 
 pub record OutputsFilled (s : List ℕ) (n : ℕ) (axes : List ℕ) (d count : ℕ) (w t w′ t′ : List ℕ) : Type 0 where
   pub table : t′ ≡ listed (take d axes) (outputOf s) ++ drop count t

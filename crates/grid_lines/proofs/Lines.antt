@@ -38,7 +38,7 @@ pub record Agreed (w : ℕ) (s₁ s₂ : List ℕ) (n₁ n₂ d : ℕ) (inputs�
   pub long₂ : length rows₂ ≡ length before₂
   pub fronts : FrontsKept w d inputs₀ inputs
   pub onGrid : LanesOnGrid w s₁ inputs
-  pub few : a ≤ w
+  pub high : a ≤ w
   pub agree : (l : ℕ) (x : List ℕ) → l < a → Front w d inputs₀ l x → getD x (d - 1) 0 < t → outputOf s₁ x ≡ outputOf s₂ x
   pub held₁ : (l : ℕ) (x : List ℕ) → 0 < t → l < w → Front w d inputs₀ l x → getD x (d - 1) 0 ≡ t - 1 → HeldTo w s₁ x rows₁ l n₁
   pub held₂ : (l : ℕ) (x : List ℕ) → 0 < t → l < w → Front w d inputs₀ l x → getD x (d - 1) 0 ≡ t - 1 → HeldTo w s₂ x rows₂ l n₂
@@ -53,7 +53,7 @@ agreed-start w s₁ s₂ n₁ n₂ d inputs rows₁ rows₂ g =
       long₂ = refl;
       fronts = λ i l h g. refl;
       onGrid = g;
-      few = omega arith;
+      high = omega arith;
       agree = λ l x h f z. absurd (omega arith);
       held₁ = λ l x z. absurd (omega arith);
       held₂ = λ l x z. absurd (omega arith);
@@ -103,7 +103,7 @@ module _
           long₂ = long₂ ∙ was .long₂;
           fronts = fronts-kept w d inputs₀ inputs inputs' t low high (was .fronts) filled;
           onGrid = filled-on-grid w s₁ d inputs inputs' t (plan.inputs (k .planned)) (omega (arith, axis-at (k .planned) (d - 1) (omega (arith, low)))) filled (was .onGrid);
-          few = omega (arith, fewer, was .few);
+          high = omega (arith, fewer, was .high);
           agree = λ l x g f h. ⊎-elim
               (λ (q : getD x (d - 1) 0 ≡ t). same l x g f q)
               (λ (less : getD x (d - 1) 0 < t). was .agree l x (omega (arith, fewer)) f less)
@@ -126,7 +126,7 @@ module _
 
         same : (l : ℕ) (x : List ℕ) → l < b → Front w d inputs₀ l x → getD x (d - 1) 0 ≡ t → outputOf s₁ x ≡ outputOf s₂ x
         same l x g f q =
-            let h : l < w = omega (arith, fewer, was .few) in
+            let h : l < w = omega (arith, fewer, was .high) in
             eqb-true _ _
             (not-false _
             (sym (lane-test k rows₁' rows₂' (n₁ - 1) (n₂ - 1) l x (shown₁ k rows₁' x l (now₁ l x h f q)) (shown₂ k rows₂' x l (now₂ l x h f q)))

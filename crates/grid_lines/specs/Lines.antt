@@ -29,5 +29,5 @@ pub record Fronts (w : ℕ) (s : List ℕ) (p : Plan) (inputs : List ℕ) : Type
   pub onGrid : LanesOnGrid w s inputs
 
 pub record Agreeing (w : ℕ) (s₁ s₂ : List ℕ) (p : Plan) (inputs : List ℕ) (r : ℕ) : Type 0 where
-  pub few : r ≤ w
+  pub high : r ≤ w
   pub agree : (l : ℕ) (x : List ℕ) → l < r → Front w (p .d) inputs l x → Last (p .d) (lastAxis p) x → outputOf s₁ x ≡ outputOf s₂ x

@@ -3,7 +3,7 @@
 --   session    the sizes, position, mark
 --   refusal    number (0: accepted), file, step
 --   answer     the refusal, kind, vectors run, x1 to the last input's value, output of file 1, output of file 2
--- There are maxInputs word lengths and as many values. `wordAt w i` is the word at place i, and 0 past the end.
+-- There are maxInputs word lengths and as many values. `wordAt w i` is the word at offset i, and 0 past the end.
 use mathlib.Core.List.{List}
 use Prim.Native.Nat.{ℕ, _+_}
 use lib.ListN.{getD}

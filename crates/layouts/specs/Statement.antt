@@ -1,5 +1,5 @@
 -- What is claimed of the layouts: where each word stands, that reading words undoes writing them, and that writing undoes reading. Each
--- statement is proved in proofs/, under the same name in lower case.
+-- statement is proved in proofs/, under the same name with a small first letter.
 --   Offsets                 the offsets and the lengths of the C header as numbers, and what stands there:
 --     refusal, sizes, session, answer    of any refusal, and of sizes, sessions and answers with maxInputs word lengths and values
 --   RefusalPlaces, SizesPlaces, SessionPlaces, AnswerPlaces

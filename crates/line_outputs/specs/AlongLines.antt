@@ -50,5 +50,5 @@ pub record OutputsSaved (a : Along) (s before after saved : List ℕ) : Type 0 w
   pub onGrid : LanesOnGrid (a .w) s after
 
 pub record Matching (a : Along) (s inputs saved : List ℕ) (r : ℕ) : Type 0 where
-  pub few : r ≤ a .w
+  pub high : r ≤ a .w
   pub shown : (l : ℕ) (x : List ℕ) → l < r → Front (a .w) (a .d) inputs l x → Last (a .d) (a .u) x → Shown (a .w) s x saved l (getD x (a .d - 1) 0)

@@ -1,4 +1,4 @@
--- What is claimed of polynomials in one variable. Each statement is proved in proofs/, under the same name in lower case.
+-- What is claimed of polynomials in one variable. Each statement is proved in proofs/, under the same name with a small first letter.
 --   NewtonCoefficients   the k-fold difference at 0 is k!·c_k
 --   OneVariable          a polynomial that M divides at 0 .. L − 1, where M divides L!, is divisible by M at every natural number
 --   ByDegree             so is one of degree at most g that M divides at 0 .. g

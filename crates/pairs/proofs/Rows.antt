@@ -28,7 +28,7 @@ use Rattle.sizes.specs.Sizes.{badOutput, badInputs, widthRule, badWidths}
 use Rattle.datapath.specs.Steps.{stepValue, values, exact, output}
 use Rattle.grid_theorem.specs.Comparison.{differsAt, firstDifference}
 use Rattle.words.specs.Bytes.{little}
-use Rattle.pairs.specs.Written.{x, number, joined, power, bytes, operationByte, argumentOf, argumentBytes, written}
+use Rattle.pairs.specs.Written.{x, constant, joined, power, bytes, operationByte, argumentOf, argumentBytes, written}
 use Rattle.pairs.specs.Pairs.{
   Pair,
   first-quadratic,
@@ -69,7 +69,7 @@ unfolding found claimed
     pairs quadratics quadratics-in-two quintic other-quintic four-factors-of-2-bits four-factors-of-3-bits
     three-factors-of-8-bits four-factors-of-8-bits square-of-a-bit two-inputs product
     first-quadratic second-quadratic quartic three-factors four-factors a·dp b·dp
-    written argumentBytes argumentOf operationByte bytes power joined number x
+    written argumentBytes argumentOf operationByte bytes power joined constant x
     opened noSession pairRefusal sameSizes answers answerTo continued continueRefusal stateRefusal misplaced isClosed
     advanced progress refusedAnswer plainAnswer differsAnswer outputsDiffer outputOf vectorsRun stop firstPlace
     refusalOf shownStep fileNumber headFault tooShort badOutput badInputs badCount badWidths widthRule badLength
@@ -104,7 +104,7 @@ unfolding pairs pairAt
     quadratics quadratics-in-two quintic other-quintic four-factors-of-2-bits four-factors-of-3-bits
     three-factors-of-8-bits four-factors-of-8-bits square-of-a-bit two-inputs product
     first-quadratic second-quadratic quartic three-factors four-factors a·dp b·dp
-    written argumentBytes argumentOf operationByte bytes power joined number x
+    written argumentBytes argumentOf operationByte bytes power joined constant x
     sizesOf stepCount operation argument little stepsOf stepsFrom stepAt decoded exact values stepValue
 starredPairs =
     record {

@@ -1,5 +1,5 @@
 -- What a row of the table claims, by the definitions of sessions.
---   calls p   the pair's continue calls: its two files in this order, each of its budgets, and a scratch slice of 1,024 entries
+--   calls p   the pair's continue calls: its two files in this order, each of its budgets, and a scratch slice of maxSteps entries
 --   Holds p   opening the two files is accepted, the calls from there give the row's answers, and document 01's stop D is the count of
 --             vectors that these answers carry
 use mathlib.Core.List.{List, map}

@@ -14,7 +14,7 @@ use Rattle.sessions.specs.declared.Answer.{Answer}
 use Rattle.sessions.specs.declared.Kind.the-variants.{Spent, Equivalent, Differs}
 use Rattle.sizes.specs.Sizes.{accepted}
 use Rattle.vectors.specs.Vectors.{padded}
-use Rattle.pairs.specs.Written.{Expression, x, number, _⊕_, _⊖_, _⊗_, _↑_, written}
+use Rattle.pairs.specs.Written.{Expression, x, constant, _⊕_, _⊖_, _⊗_, _↑_, written}
 
 abbrev pub spent : ℕ → Answer
 spent n = plainAnswer Spent n
@@ -34,11 +34,11 @@ pub record Pair : Type 0 where
 
 -- 64x²+192x−169 with m 8, n 8
 unfoldable pub first-quadratic : List ℕ
-first-quadratic = written 8 (8 ∷ []) (number 64 ⊗ x 0 ↑ 2 ⊕ number 192 ⊗ x 0 ⊖ number 169)
+first-quadratic = written 8 (8 ∷ []) (constant 64 ⊗ x 0 ↑ 2 ⊕ constant 192 ⊗ x 0 ⊖ constant 169)
 
 -- 192x²+64x+87 with m 8, n 8
 unfoldable pub second-quadratic : List ℕ
-second-quadratic = written 8 (8 ∷ []) (number 192 ⊗ x 0 ↑ 2 ⊕ number 64 ⊗ x 0 ⊕ number 87)
+second-quadratic = written 8 (8 ∷ []) (constant 192 ⊗ x 0 ↑ 2 ⊕ constant 64 ⊗ x 0 ⊕ constant 87)
 
 -- m 8, n 8: 64x²+192x−169 and 192x²+64x+87: equivalent, 10 run
 unfoldable pub quadratics : Pair
@@ -57,13 +57,13 @@ quadratics-in-two =
 
 -- x⁴+10x³+3x²+2x+8 with m 4, n 4
 unfoldable pub quartic : List ℕ
-quartic = written 4 (4 ∷ []) (x 0 ↑ 4 ⊕ number 10 ⊗ x 0 ↑ 3 ⊕ number 3 ⊗ x 0 ↑ 2 ⊕ number 2 ⊗ x 0 ⊕ number 8)
+quartic = written 4 (4 ∷ []) (x 0 ↑ 4 ⊕ constant 10 ⊗ x 0 ↑ 3 ⊕ constant 3 ⊗ x 0 ↑ 2 ⊕ constant 2 ⊗ x 0 ⊕ constant 8)
 
 -- m 4, n 4: 2x⁵+13x⁴+15x²+2x+8 and x⁴+10x³+3x²+2x+8: equivalent, 6 run
 unfoldable pub quintic : Pair
 quintic =
     record {
-      file₁ = written 4 (4 ∷ []) (number 2 ⊗ x 0 ↑ 5 ⊕ number 13 ⊗ x 0 ↑ 4 ⊕ number 15 ⊗ x 0 ↑ 2 ⊕ number 2 ⊗ x 0 ⊕ number 8);
+      file₁ = written 4 (4 ∷ []) (constant 2 ⊗ x 0 ↑ 5 ⊕ constant 13 ⊗ x 0 ↑ 4 ⊕ constant 15 ⊗ x 0 ↑ 2 ⊕ constant 2 ⊗ x 0 ⊕ constant 8);
       file₂ = quartic;
       budgets = 6 ∷ [];
       answers = equivalent 6 ∷ [];
@@ -73,7 +73,7 @@ quintic =
 unfoldable pub other-quintic : Pair
 other-quintic =
     record {
-      file₁ = written 4 (4 ∷ []) (x 0 ↑ 5 ⊕ number 15 ⊗ x 0 ↑ 4 ⊕ number 5 ⊗ x 0 ↑ 3 ⊕ x 0 ↑ 2 ⊕ number 2 ⊗ x 0 ⊕ number 8);
+      file₁ = written 4 (4 ∷ []) (x 0 ↑ 5 ⊕ constant 15 ⊗ x 0 ↑ 4 ⊕ constant 5 ⊗ x 0 ↑ 3 ⊕ x 0 ↑ 2 ⊕ constant 2 ⊗ x 0 ⊕ constant 8);
       file₂ = quartic;
       budgets = 2 ∷ [];
       answers = differs (1 ∷ []) 0 8 2 ∷ [];
@@ -81,18 +81,18 @@ other-quintic =
 
 -- x(x−1)(x−2)
 unfoldable pub three-factors : Expression
-three-factors = x 0 ⊗ (x 0 ⊖ number 1) ⊗ (x 0 ⊖ number 2)
+three-factors = x 0 ⊗ (x 0 ⊖ constant 1) ⊗ (x 0 ⊖ constant 2)
 
 -- x(x−1)(x−2)(x−3)
 unfoldable pub four-factors : Expression
-four-factors = three-factors ⊗ (x 0 ⊖ number 3)
+four-factors = three-factors ⊗ (x 0 ⊖ constant 3)
 
 -- m 4: x(x−1)(x−2)(x−3): n 2, equivalent after 4
 unfoldable pub four-factors-of-2-bits : Pair
 four-factors-of-2-bits =
     record {
       file₁ = written 4 (2 ∷ []) four-factors;
-      file₂ = written 4 (2 ∷ []) (number 0);
+      file₂ = written 4 (2 ∷ []) (constant 0);
       budgets = 4 ∷ [];
       answers = equivalent 4 ∷ [];
     }
@@ -102,7 +102,7 @@ unfoldable pub four-factors-of-3-bits : Pair
 four-factors-of-3-bits =
     record {
       file₁ = written 4 (3 ∷ []) four-factors;
-      file₂ = written 4 (3 ∷ []) (number 0);
+      file₂ = written 4 (3 ∷ []) (constant 0);
       budgets = 5 ∷ [];
       answers = differs (4 ∷ []) 8 0 5 ∷ [];
     }
@@ -112,7 +112,7 @@ unfoldable pub three-factors-of-8-bits : Pair
 three-factors-of-8-bits =
     record {
       file₁ = written 3 (8 ∷ []) three-factors;
-      file₂ = written 3 (8 ∷ []) (number 0);
+      file₂ = written 3 (8 ∷ []) (constant 0);
       budgets = 4 ∷ [];
       answers = differs (3 ∷ []) 6 0 4 ∷ [];
     }
@@ -122,7 +122,7 @@ unfoldable pub four-factors-of-8-bits : Pair
 four-factors-of-8-bits =
     record {
       file₁ = written 3 (8 ∷ []) four-factors;
-      file₂ = written 3 (8 ∷ []) (number 0);
+      file₂ = written 3 (8 ∷ []) (constant 0);
       budgets = 4 ∷ [];
       answers = equivalent 4 ∷ [];
     }
@@ -141,8 +141,8 @@ square-of-a-bit =
 unfoldable pub two-inputs : Pair
 two-inputs =
     record {
-      file₁ = written 2 (2 ∷ 2 ∷ []) (x 0 ⊗ (x 0 ⊖ number 1) ⊗ x 1 ⊗ (x 1 ⊖ number 1));
-      file₂ = written 2 (2 ∷ 2 ∷ []) (number 0);
+      file₁ = written 2 (2 ∷ 2 ∷ []) (x 0 ⊗ (x 0 ⊖ constant 1) ⊗ x 1 ⊗ (x 1 ⊖ constant 1));
+      file₂ = written 2 (2 ∷ 2 ∷ []) (constant 0);
       budgets = 16 ∷ [];
       answers = equivalent 16 ∷ [];
     }

@@ -1,5 +1,5 @@
 -- The pairs marked * in document 01, as one fact. It is proved in proofs/Rows, by computing.
---   z ^ℤ n         the n-th power of the integer z
+--   a ^ℤ n         the n-th power of the integer a
 --   Sized s m ns   the file s has output word length m and an input for each entry of ns, which is its word length;
 --                  the other word lengths are 0
 --   Computes s f   at every vector v, the exact value of the file's last step is f v
@@ -31,9 +31,9 @@ use Rattle.pairs.specs.Pairs.{Pair, spent, equivalent, differs}
 
 infixl 8 _^ℤ_
 abbrev pub _^ℤ_ : ℤ → ℕ → ℤ
-z ^ℤ zero = pos 1
-z ^ℤ suc zero = z
-z ^ℤ suc (suc n) = z ^ℤ suc n *ℤ z
+a ^ℤ zero = pos 1
+a ^ℤ suc zero = a
+a ^ℤ suc (suc n) = a ^ℤ suc n *ℤ a
 
 abbrev pub Sized : List ℕ → ℕ → List ℕ → Type 0
 Sized s m ns = sizesOf s ≡ record { m = m; d = length ns; widths = ns ++ replicate (maxInputs - length ns) 0 }

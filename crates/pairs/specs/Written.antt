@@ -1,6 +1,6 @@
 -- Files written from expressions, in document 01's layout ('The datapath file').
 --   Expression            the steps of a datapath, given the number that its first step has; the last is its value
---   x i, number c         input i, counted from 0; the constant c
+--   x i, constant c       input i, counted from 0; the constant c
 --   _⊕_, _⊖_, _⊗_         sum, difference and product of two expressions: the left one's steps, the right one's, and one more
 --   e ↑ n                 the n-th power of an expression, a product of n factors; 1 where n is 0
 --   bytes n a             the n bytes of the number a, the first weighing least
@@ -20,8 +20,8 @@ Expression = ℕ → List Step
 unfoldable pub x : ℕ → Expression
 x i k = Input i ∷ []
 
-unfoldable pub number : ℕ → Expression
-number c k = Constant c ∷ []
+unfoldable pub constant : ℕ → Expression
+constant c k = Constant c ∷ []
 
 -- the operation o on the last steps of a and of b
 unfoldable pub joined : (ℕ → ℕ → Step) → Expression → Expression → Expression
@@ -43,7 +43,7 @@ abbrev pub _⊗_ : Expression → Expression → Expression
 a ⊗ b = joined Multiply a b
 
 unfoldable pub power : Expression → ℕ → Expression
-power e zero = number 1
+power e zero = constant 1
 power e (suc zero) = e
 power e (suc (suc n)) = power e (suc n) ⊗ e
 

@@ -33,8 +33,8 @@ place-snoc (w ∷ us) (y ∷ ys) u t b = rw (size-snoc us u, place-snoc us ys u 
 pub vector-snoc : (us : List ℕ) (u p : ℕ) → p < size us * u → vectorAt (us ++ (u ∷ [])) p ≡ vectorAt us (p / u) ++ (p % u ∷ [])
 vector-snoc us u p h =
     let some = rest-least (size us) u p h in
-    let row = div-lt-iff-lt-mul some .1 h in
-    let b = oneToOne us .below (p / u) row in
+    let line = div-lt-iff-lt-mul some .1 h in
+    let b = oneToOne us .below (p / u) line in
     ap (vectorAt (us ++ (u ∷ [])))
-    (sym (place-snoc us (vectorAt us (p / u)) u (p % u) b ∙ ap (λ r. r * u + p % u) (oneToOne us .placed (p / u) row) ∙ div-add-mod' p u))
+    (sym (place-snoc us (vectorAt us (p / u)) u (p % u) b ∙ ap (λ r. r * u + p % u) (oneToOne us .placed (p / u) line) ∙ div-add-mod' p u))
     ∙ oneToOne (us ++ (u ∷ [])) .found _ (below-snoc us (vectorAt us (p / u)) u (p % u) b (mod-lt p some))

@@ -71,7 +71,7 @@ place-before (u ∷ us) (x ∷ xs) (y ∷ ys) b c (inl h) = omega (arith, digits
 place-before (u ∷ us) (x ∷ xs) (y ∷ ys) b c (inr h) =
     omega (arith, place-before us xs ys (b .1) (c .1) (h .1), ap (λ (n : ℕ). n * size us) (h .0))
 
--- of two places in one row of the first axis, and in two rows
+-- of two places in one layer of the first axis, and in two layers
 digits-order : (s p q : ℕ) → 0 < s → p < q → (p / s < q / s) ⊎ ((p / s ≡ q / s) × (p % s < q % s))
 digits-order s p q z h = elim (decLt (p / s) (q / s)) [ yes l ↦ inl l | no l ↦ inr (same (eq-or-lt-of-le (omega arith))) ]
   where

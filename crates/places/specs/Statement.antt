@@ -1,4 +1,4 @@
--- What is claimed of places. Each statement is proved in proofs/, under the same name in lower case.
+-- What is claimed of places. Each statement is proved in proofs/, under the same name with a small first letter.
 --   OneToOne    places below the size and vectors below the axes correspond one to one
 --   InOrder     a place is below another exactly where its vector is before the other's
 use mathlib.Core.Path.{_≡_}

@@ -24,9 +24,9 @@ use Rattle.printed.specs.Claims.{AllEqual, DifferLine, Tells, PrintedTel
 use Rattle.printed.specs.Report.{gridText, verdictText, printed}
 use Rattle.text.specs.Text.{ascii, lineFeed, line, spaced, words}
 use Rattle.printed.specs.Lines.{refusalLine, differLine, equivalentLine, runLine}
-use Rattle.text.proofs.Cut.{free, free-append, free-spaced, cut-words}
+use Rattle.text.proofs.Pieces.{free, free-append, free-spaced, pieces-words}
 use Rattle.printed.proofs.Texts.{report-refused}
-use Rattle.printed.proofs.ThreeLines.{cut-one, three-lines, differBytes, differ-free, differ-words}
+use Rattle.printed.proofs.ThreeLines.{linesOf-one, three-lines, differBytes, differ-free, differ-words}
 
 module _ (f₁ f₂ : List ℕ) (o : opened f₁ f₂ .refusal .number ≡ 0) where
   abbrev place : ℕ
@@ -115,8 +115,8 @@ refuses r =
     let ns = r .number ∷ r .file ∷ r .step ∷ [] in
     record {
       line = words "refused" ns;
-      split = cut-one (words "refused" ns) (free-append lineFeed (ascii "refused") (spaced ns) refl (free-spaced ns));
-      words = cut-words (ascii "refused") ns refl;
+      split = linesOf-one (words "refused" ns) (free-append lineFeed (ascii "refused") (spaced ns) refl (free-spaced ns));
+      words = pieces-words (ascii "refused") ns refl;
     }
 
 pub refusedLine : RefusedLine

@@ -16,7 +16,7 @@ use Rattle.printed.specs.Claims.{ThreeLines, Shows, ShownAsIs, NoText}
 use Rattle.printed.specs.Report.{shownText, concluded, reportOf}
 use Rattle.text.specs.Text.{ascii, lineFeed, line}
 use Rattle.printed.specs.Lines.{differLine, equivalentLine}
-use Rattle.text.proofs.Cut.{free}
+use Rattle.text.proofs.Pieces.{free}
 use Rattle.printed.proofs.Texts.{concluded-refused, concluded-lines, report-spent, report-equivalent, report-differs}
 use Rattle.printed.proofs.ThreeLines.{three-lines, differBytes, differ-free, differ-words}
 

@@ -1,5 +1,5 @@
 -- The grid, a line and the vectors run, one after the other, are three lines, and so are their words: no number brings a line feed, and each
--- line is cut into its words. The words of a difference. Assumes nothing.
+-- line is taken apart into its words. The words of a difference. Assumes nothing.
 use mathlib.Core.Path.{_≡_, refl, _∙_, ap}
 use mathlib.Core.Bool.{true}
 use mathlib.Core.List.{List, [], _∷_, _++_, map, append-assoc}
@@ -9,9 +9,9 @@ use Rattle.grid.specs.Grid.{axesOf, gridSize}
 use Rattle.printed.specs.Claims.{differWords, ThreeLines}
 use Rattle.text.specs.Decimal.{decimal}
 use Rattle.printed.specs.Report.{gridText}
-use Rattle.text.specs.Text.{ascii, lineFeed, space, line, spaced, words, cut, linesOf, wordsOf}
+use Rattle.text.specs.Text.{ascii, lineFeed, space, line, spaced, words, pieces, linesOf, wordsOf}
 use Rattle.printed.specs.Lines.{gridLine, runLine}
-use Rattle.text.proofs.Cut.{free, free-append, free-spaced, cut-at, cut-line, cut-words, cut-words-rest}
+use Rattle.text.proofs.Pieces.{free, free-append, free-spaced, pieces-at, pieces-line, pieces-words, pieces-words-rest}
 
 -- words with two signs have no line feed
 two-free : (x ns y ms : List ℕ) → free lineFeed x ≡ true → free lineFeed y ≡ true → free lineFeed (x ++ spaced ns ++ (y ++ spaced ms)) ≡ true
@@ -22,21 +22,21 @@ two-free x ns y ms h k =
 -- the words on both sides of a sign
 two-words :
     (w ns v ms : List ℕ) → free space w ≡ true → free space v ≡ true →
-    cut space (w ++ spaced ns ++ (space ∷ v ++ spaced ms)) ≡ (w ∷ map decimal ns) ++ (v ∷ map decimal ms)
-two-words w ns v ms h k = cut-words-rest w ns (v ++ spaced ms) h ∙ ap (λ (ps : List (List ℕ)). (w ∷ map decimal ns) ++ ps) (cut-words v ms k)
+    pieces space (w ++ spaced ns ++ (space ∷ v ++ spaced ms)) ≡ (w ∷ map decimal ns) ++ (v ∷ map decimal ms)
+two-words w ns v ms h k = pieces-words-rest w ns (v ++ spaced ms) h ∙ ap (λ (ps : List (List ℕ)). (w ∷ map decimal ns) ++ ps) (pieces-words v ms k)
 
 -- a line alone, and three lines
-pub cut-one : (r : List ℕ) → free lineFeed r ≡ true → linesOf (line r) ≡ r ∷ [] ∷ []
-unfolding cut
-cut-one r h = cut-at lineFeed r [] h
+pub linesOf-one : (r : List ℕ) → free lineFeed r ≡ true → linesOf (line r) ≡ r ∷ [] ∷ []
+unfolding pieces
+linesOf-one r h = pieces-at lineFeed r [] h
 
-cut-three :
+linesOf-three :
     (g v r : List ℕ) → free lineFeed g ≡ true → free lineFeed v ≡ true → free lineFeed r ≡ true →
     linesOf (line g ++ line v ++ line r) ≡ g ∷ v ∷ r ∷ [] ∷ []
-cut-three g v r hg hv hr =
+linesOf-three g v r hg hv hr =
     ap linesOf (append-assoc (line g) (line v) (line r))
-    ∙ cut-line g (line v ++ line r) hg
-    ∙ ap (λ (ps : List (List ℕ)). g ∷ ps) (cut-line v (line r) hv ∙ ap (λ (ps : List (List ℕ)). v ∷ ps) (cut-one r hr))
+    ∙ pieces-line g (line v ++ line r) hg
+    ∙ ap (λ (ps : List (List ℕ)). g ∷ ps) (pieces-line v (line r) hv ∙ ap (λ (ps : List (List ℕ)). v ∷ ps) (linesOf-one r hr))
 
 -- the line of the grid, before its line feed
 abbrev gridBytes : List ℕ → List ℕ
@@ -51,12 +51,12 @@ three-lines f₁ v n one =
       first = gridBytes f₁;
       third = words "run" (n ∷ []);
       split =
-          cut-three (gridBytes f₁) v (words "run" (n ∷ []))
+          linesOf-three (gridBytes f₁) v (words "run" (n ∷ []))
           (two-free (ascii "grid") us (ascii " =") (G ∷ []) refl refl)
           one
           (free-append lineFeed (ascii "run") (spaced (n ∷ [])) refl (free-spaced (n ∷ [])));
       grid = two-words (ascii "grid") us (ascii "=") (G ∷ []) refl refl;
-      run = cut-words (ascii "run") (n ∷ []) refl;
+      run = pieces-words (ascii "run") (n ∷ []) refl;
     }
 
 -- the line of a difference, before its line feed

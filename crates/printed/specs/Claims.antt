@@ -1,4 +1,4 @@
--- What is claimed of the texts. Each statement is proved in proofs/, under the same name in lower case. A text is taken apart here by its
+-- What is claimed of the texts. Each statement is proved in proofs/, under the same name with a small first letter. A text is taken apart here by its
 -- bytes alone (`linesOf`, `wordsOf` in text specs/Text), so that no definition of a line has to be believed.
 --   AllEqual f₁ f₂       the outputs are equal at every full-width vector
 --   differWords x o₁ o₂  the words of a difference: at the vector x, with the outputs o₁ and o₂
@@ -14,7 +14,7 @@
 --   NoText               a spent answer has no text, nor has a verdict on files whose opening is refused
 --   ReportedInFull       where a call of a list that demand 3 is about gives a verdict, the text of its answer is what is printed of the files
 --   RefusedReported      where opening is refused, the text of a continue call with a budget is what is printed of the files
---   Words a              each number of the answer a fits 64 bits, and its vector has an entry for each input that a file may have
+--   Words a              each number of the answer a but the vectors run fits 64 bits, and its vector has an entry for each input that a file may have
 --   Fits                 the text of an answer of such numbers has room in a slice of textRoom bytes
 use mathlib.Core.Path.{_≡_}
 use mathlib.Core.Logic.{_↔_}

@@ -1,7 +1,7 @@
 -- The lines that a comparison prints (document 01, 'Pairs').
 --   refusalLine r        refused: number, file, step
 --   gridLine us G        the grid: its axes and its size
---   differLine x o₁ o₂   the blocks differ: the vector, and both outputs
+--   differLine x o₁ o₂   the datapaths differ: the vector, and both outputs
 --   equivalentLine       they are equivalent
 --   runLine n            the vectors run
 use mathlib.Core.List.{List, [], _∷_, _++_}

@@ -2,7 +2,7 @@
 --   Listing       two files, and the text that is to be printed of them
 --   listingTable  the table: document 01's files a.dp and b.dp ('Pairs'), b.dp with itself, and two empty files
 --   Listings      each text is what is printed
---   Refused       two files that are refused, with the refusal's number, file and step
+--   RefusedPair   two files that are refused, with the refusal's number, file and step
 --   refusedTable  the table: document 01's files, damaged so that each of 1 to 9 refuses one or the other, and so that two conditions hold
 --   RefusedListings  of each the line of that refusal is printed
 -- Both are proved in proofs/Listings, by one test over the whole table.
@@ -61,7 +61,7 @@ listingTable =
 abbrev pub Listings : Type 0
 Listings = map (λ (l : Listing). printed (l .file₁) (l .file₂)) listingTable ≡ map (λ (l : Listing). l .text) listingTable
 
-pub record Refused : Type 0 where
+pub record RefusedPair : Type 0 where
   pub file₁ : List ℕ
   pub file₂ : List ℕ
   pub number : ℕ
@@ -69,15 +69,15 @@ pub record Refused : Type 0 where
   pub step : ℕ
 
 -- the line of a refusal whose number, file and step have one digit each
-abbrev pub refusedBytes : Refused → List ℕ
+abbrev pub refusedBytes : RefusedPair → List ℕ
 refusedBytes r =
     0x72 ∷ 0x65 ∷ 0x66 ∷ 0x75 ∷ 0x73 ∷ 0x65 ∷ 0x64 ∷ 0x20 ∷ (0x30 + r .number) ∷ 0x20 ∷ (0x30 + r .file) ∷ 0x20 ∷ (0x30 + r .step) ∷ 0x0a ∷ []
 
 -- two files, and what they are refused by: number, file, step
-abbrev refused : List ℕ → List ℕ → ℕ → ℕ → ℕ → Refused
+abbrev refused : List ℕ → List ℕ → ℕ → ℕ → ℕ → RefusedPair
 refused f₁ f₂ n f k = record { file₁ = f₁; file₂ = f₂; number = n; file = f; step = k }
 
-unfoldable pub refusedTable : List Refused
+unfoldable pub refusedTable : List RefusedPair
 refusedTable =
     -- 1. no byte
     refused b·dp [] 1 2 0
@@ -106,4 +106,4 @@ refusedTable =
     ∷ []
 
 abbrev pub RefusedListings : Type 0
-RefusedListings = map (λ (r : Refused). printed (r .file₁) (r .file₂)) refusedTable ≡ map refusedBytes refusedTable
+RefusedListings = map (λ (r : RefusedPair). printed (r .file₁) (r .file₂)) refusedTable ≡ map refusedBytes refusedTable

@@ -1,10 +1,10 @@
 // The text of a continue call's answer, as the comparing program prints it.
 use fields::read_sizes;
-use lines::put_grid;
-use lines::put_refusal;
-use lines::put_run;
-use lines::put_verdict;
 use opening::open_session;
+use report_lines::put_grid;
+use report_lines::put_refusal;
+use report_lines::put_run;
+use report_lines::put_verdict;
 use sessions::Answer;
 use sessions::Kind;
 ghost use Rattle.printed.specs.Report.{concluded};

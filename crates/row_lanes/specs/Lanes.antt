@@ -1,5 +1,5 @@
 -- Single lanes of rows of w lanes.
---   Column w before after l v  only lane l of the first maxInputs rows was written, with the entries of v
+--   Column w before after l v  lane l of the first maxInputs rows has the entries of v, and every other lane is as before
 --   unequal w m v a u b l      a test: lane l of row a of v and of row b of u differ modulo 2^m
 use mathlib.Core.Path.{_≡_}
 use mathlib.Core.Bool.{Bool, not}

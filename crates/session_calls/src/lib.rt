@@ -27,9 +27,9 @@ pub fn open_call(file1: &[u8], file2: &[u8], session: &mut [u64], out: &mut [u64
         return 0;
     }
     let o = open_session(file1, file2);
-    let z = o.session;
+    let fresh = o.session;
     let r = o.refusal;
-    put_session(session, z);
+    put_session(session, fresh);
     put_refusal(out, r);
     1
 }
@@ -57,8 +57,8 @@ pub fn continue_call(
     if !session_fits(session) {
         return 0;
     }
-    let z = session_from(session);
-    let c = continue_session(file1, file2, z, budget, scratch);
+    let given = session_from(session);
+    let c = continue_session(file1, file2, given, budget, scratch);
     let next = c.session;
     let a = c.answer;
     put_session(session, next);

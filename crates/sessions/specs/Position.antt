@@ -1,11 +1,12 @@
--- An accepted call from any position of an open session, wherever it came from (document 01, 'Sessions'): which of the three kinds it is, by the
+-- An accepted call from any position of a session, wherever it came from (document 01, 'Sessions'): which of the three kinds it is, by the
 -- places of the grid from the position on.
 --   AgreeFrom s₁ s₂ p q   the outputs agree at every place from p to before q
---   FromPosition         the session σ, at a position below G, with the budget B. Proved in proofs/Position
+--   FromPosition s₁ s₂ σ B   the session σ with the budget B:
 --     differs      place q is the first from the position on at which the outputs differ, and is among the next B: it is shown, the position
 --                  becomes q + 1, and the mark differ
 --     equivalent   none differs from the position on, and B reaches the end of the grid: the position becomes G, and the mark equal
---     spent        none of the next B differs, and more remain: the position grows by B, and the mark stays open
+--     spent        none of the next B differs, and more remain: the position grows by B, and the mark is open
+--   FromAnyPosition      that is so of every session at a position below G. Proved in proofs/Position
 use mathlib.Core.Bool.{true, false}
 use mathlib.Core.List.{List}
 use mathlib.Core.Path.{_≡_}

@@ -1,6 +1,6 @@
 -- Conditions on the sizes, each under document 01's number ('Refused because of the input').
 --   badOutput    2. m is not 1 to 64
---   badInputs    3. d is not 1 to 8
+--   badInputs    3. d is not 1 to maxInputs
 --   badWidths    5. a word-length byte breaks its rule: 1 to 64 for the first d, and 0 for the others
 --   refusedBy k  the refusal under the number k that shows no file and no step
 --   accepted     acceptance: number 0

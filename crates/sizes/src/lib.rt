@@ -57,7 +57,7 @@ pub fn bad_output(z: Sizes) -> bool
     !within(1, 64, m)
 }
 
-// Whether d breaks condition 3: it is not 1 to 8.
+// Whether d breaks condition 3: it is not 1 to INPUTS.
 pub fn bad_inputs(z: Sizes) -> bool
     ensures { λ r. ⌜ r ≡ badInputs z ⌝ }
 {

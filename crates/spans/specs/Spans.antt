@@ -4,9 +4,9 @@
 use Prim.Native.Nat.{ℕ, _+_, _*_, _≤_, _<_}
 
 pub record FirstLine (p u r : ℕ) : Type 0 where
-  pub after : p ≤ r * u
-  pub near : r * u < p + u
+  pub low : p ≤ r * u
+  pub high : r * u < p + u
 
 pub record LinesFrom (p u r : ℕ) : Type 0 where
-  pub after : p ≤ r * u
-  pub near : r * u < p + 2 * u
+  pub low : p ≤ r * u
+  pub high : r * u < p + 2 * u

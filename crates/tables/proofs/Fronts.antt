@@ -24,7 +24,7 @@ module _ (z : Sizes) (w : length (z .widths) ≡ maxInputs) (s : Sound z) (g : G
       let G = grid-size z g e in
       record {
         grid = record { inputs = s .1; some = omega (arith, grid-least z s); counted = ap size (grid-axes z g e w (s .1)) ∙ sym G };
-        held = omega arith;
+        room = omega arith;
         bits = s .0 .1;
       }
 

@@ -1,4 +1,4 @@
-pub mod Cut
+pub mod Pieces
 pub mod Decimal
 pub mod Over
 pub mod Spaced

@@ -65,7 +65,7 @@ put-step bytes t t₁ at i h l p =
 pub put-end : (bytes t t₁ : List ℕ) (at i r : ℕ) → length bytes ≤ i → Put (take i bytes) t t₁ at r → Put bytes t t₁ at r
 put-end bytes t t₁ at i r h p = rw (take-all i bytes h) at p
 
--- what is put at place 0 is at the front
+-- what is put at index 0 is at the front
 pub at-front : {t before after : List ℕ} {r : ℕ} → Put t before after 0 r → TextWritten t before after r
 unfolding over
 at-front {t} p = record { count = p .next ∙ zero-add (length t); text = rw zero-add at (p .text) }

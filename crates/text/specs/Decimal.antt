@@ -3,7 +3,7 @@
 --   decimal n         the digits of n
 --   numeral bytes     the number that the bytes of digits give
 --   IsDecimal n bytes the bytes are n in decimal: some digits, no leading zero, and their number is n
---   Decimals          each number's decimal is that. It is proved in proofs/Decimal, under the same name in lower case
+--   Decimals          each number's decimal is that. It is proved in proofs/Decimal, under the same name with a small first letter
 --   OneDecimal        no other bytes are. It is proved there too
 use mathlib.Core.Path.{_≡_}
 use mathlib.Core.Bool.{cond}

@@ -6,7 +6,7 @@
 --   line bytes      the bytes as a line, with a line feed at its end
 --   spaced ns       each number in decimal, after one space
 --   words text ns   the text, and the numbers after it
---   cut c bytes     the pieces of the bytes between those that are c, one more than there are of these
+--   pieces c bytes  the pieces of the bytes between those that are c, one more than there are of these
 --   linesOf text    the pieces between line feeds. Where each line ends in a line feed, the last piece is empty
 --   wordsOf line    the pieces between spaces
 use mathlib.Core.Bool.{cond}
@@ -37,17 +37,17 @@ spaced (n ∷ ns) = (space ∷ decimal n) ++ spaced ns
 abbrev pub words : String → List ℕ → List ℕ
 words text ns = ascii text ++ spaced ns
 
--- the byte b before the first of the pieces
+-- the byte b before the first of several pieces
 abbrev pub onFirst : ℕ → List (List ℕ) → List (List ℕ)
 onFirst b [] = []
-onFirst b (piece ∷ pieces) = (b ∷ piece) ∷ pieces
+onFirst b (piece ∷ rest) = (b ∷ piece) ∷ rest
 
-unfoldable pub cut : ℕ → List ℕ → List (List ℕ)
-cut c [] = [] ∷ []
-cut c (b ∷ bytes) = cond (eqb b c) ([] ∷ cut c bytes) (onFirst b (cut c bytes))
+unfoldable pub pieces : ℕ → List ℕ → List (List ℕ)
+pieces c [] = [] ∷ []
+pieces c (b ∷ bytes) = cond (eqb b c) ([] ∷ pieces c bytes) (onFirst b (pieces c bytes))
 
 abbrev pub linesOf : List ℕ → List (List ℕ)
-linesOf text = cut lineFeed text
+linesOf text = pieces lineFeed text
 
 abbrev pub wordsOf : List ℕ → List (List ℕ)
-wordsOf line = cut space line
+wordsOf line = pieces space line

@@ -1,7 +1,7 @@
 -- Writing bytes into a slice that is lent for a text.
---   over before at bytes           the slice with the bytes written from the place at on
+--   over before at bytes           the slice with the bytes written from the index at on
 --   RoomFor bytes text at          there is room for the bytes from there on
---   Put bytes before after at r    the bytes were written from the place at on, and r is the place after them
+--   Put bytes before after at r    the bytes were written from the index at on, and r is the index after them
 --   TextWritten t before after r   the text t was written at the front, and r is the count of its bytes
 use mathlib.Core.Path.{_≡_}
 use mathlib.Core.List.{List, _++_}

@@ -1,4 +1,4 @@
-// Writing bytes and decimal numbers into a text slice, from a place on. Each function answers the place after what it
+// Writing bytes and decimal numbers into a text slice, from an index on. Each function answers the index after what it
 // wrote.
 ghost use mathlib.Core.List.{[], _∷_, _++_};
 ghost use Rattle.text.specs.Decimal.{decimal};

@@ -1,4 +1,4 @@
--- `conclusion::conclude` meets its contract. The invariant: the calls made so far have led to the session that is held, and the stop is not
+-- `conclusion::conclude` meets its contract. The invariant: the calls made so far have led to the current session, and the stop is not
 -- reached. The measure is what is left to the stop.
 use mathlib.Core.Path.{_≡_, refl}
 use mathlib.Core.List.{[], _∷_}
@@ -18,18 +18,25 @@ use Rattle.conclusion.proofs.conclude.Statement.{statement}
 use Rattle.conclusion.proofs.conclude.Tie as tie
 
 abbrev Inv-loop : tie.InvT-loop
-Inv-loop file1 file2 scratch₀ held₀ run₀ scratch held run =
-    Under file1 file2 run held × Trail file1 file2 run held × (length scratch ≡ length scratch₀)
+Inv-loop file1 file2 scratch₀ current₀ run₀ scratch current run =
+    Under file1 file2 run current × Trail file1 file2 run current × (length scratch ≡ length scratch₀)
 
 abbrev μ-loop : tie.MeasureT-loop
-μ-loop file1 file2 scratch₀ held₀ run₀ scratch held run = stop file1 file2 - run
+μ-loop file1 file2 scratch₀ current₀ run₀ scratch current run = stop file1 file2 - run
+
+-- the places: the entry, and the call of a round that goes on
+abbrev entry : tie.After-continue-session-arg Inv-loop μ-loop → tie.Start Inv-loop μ-loop
+entry c = c .before .before .before .before .before
+
+abbrev going : tie.After-enum-told Inv-loop μ-loop → tie.After-continue-session Inv-loop μ-loop
+going c = c .before .before .before .before .before .before
 
 turn :
     (c : tie.After-continue-session Inv-loop μ-loop) →
-    let a = c .before .before .before .before .before .before .args in
+    let a = entry (c .before) .args in
     Turned (now (a .file1)) (now (a .file2)) (c .before .before .loop .run) (c .continue-session .result)
 turn c =
-    let s = c .before .before .before .before .before .before in
+    let s = entry (c .before) in
     let files = comparable _ _ (pair-accepted (now (s .args .file1)) (now (s .args .file2)) (s .pre .0)) in
     rw (c .continue-session .ensures .answer)
     (turned _ _ (s .pre .0) _ _ (c .before .before .loop .inv .0) _ _ (omega arith)
@@ -38,12 +45,12 @@ turn c =
 -- the call is one of the program's own
 called :
     (c : tie.After-continue-session Inv-loop μ-loop) →
-    let a = c .before .before .before .before .before .before .args in
-    c .continue-session .result ≡ answerTo (c .before .before .loop .held) (ownCall (now (a .file1)) (now (a .file2)))
+    let a = entry (c .before) .args in
+    c .continue-session .result ≡ answerTo (c .before .before .loop .current) (ownCall (now (a .file1)) (now (a .file2)))
 unfolding answerTo
 called c =
     let t = c .before .before in
-    rw (t .loop .inv .2, t .before .before .before .before .pre .1 .1) at (c .continue-session .ensures .answer)
+    rw (t .loop .inv .2, entry (c .before) .pre .1 .1) at (c .continue-session .ensures .answer)
 
 loop-holds : tie.Need-loop-holds Inv-loop μ-loop
 loop-holds c =
@@ -60,11 +67,11 @@ enum-told : tie.Need-enum-told Inv-loop μ-loop
 enum-told c = c .match .keys1
 
 loop-less : tie.Need-loop-less Inv-loop μ-loop
-loop-less c = let t = turn (c .before .before .before .before .before .before) .onward (c .enum-told .given .1) in omega (arith, t .0 .below, t .1)
+loop-less c = let t = turn (going c) .onward (c .enum-told .given .1) in omega (arith, t .0 .below, t .1)
 
 loop-again : tie.Need-loop-again Inv-loop μ-loop
 loop-again c =
-    let t = c .before .before .before .before .before .before in
+    let t = going c in
     (turn t .onward (c .enum-told .given .1) .0, trail-step _ _ _ _ (t .before .before .loop .inv .1) _ (called t), search needs)
 
 same-length : tie.Need-same-length Inv-loop μ-loop

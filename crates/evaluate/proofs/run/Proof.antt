@@ -22,7 +22,7 @@ use Rattle.evaluate.proofs.run.Tie as tie
 record Held (s : List ℕ) (n : ℕ) (x scratch₀ scratch : List ℕ) (k : ℕ) : Type 0 where
   within : k ≤ n
   long : length scratch ≡ length scratch₀
-  held : scratch ≡ map word (values (stepsOf s) x k) ++ drop k scratch₀
+  words : scratch ≡ map word (values (stepsOf s) x k) ++ drop k scratch₀
 
 module _ (s : List ℕ) (n : ℕ) (x scratch₀ scratch : List ℕ) (k : ℕ) (r : Ready s n x scratch₀) (h : Held s n x scratch₀ scratch k) where
   front : length (map word (values (stepsOf s) x k)) ≡ k
@@ -33,14 +33,14 @@ module _ (s : List ℕ) (n : ℕ) (x scratch₀ scratch : List ℕ) (k : ℕ) (r
       record {
         ready = record { sound = r .sound; count = r .count; inputs = r .inputs; room = omega (arith, r .room, h .long) };
         passed = h .within;
-        held = rw (h .held) (take-at _ _ k front);
+        words = rw (h .words) (take-at _ _ k front);
       }
 
   more :
       (v : ℕ) → k < n → v ≡ word (stepValue x (values (stepsOf s) x k) (stepAt s k)) →
       Held s n x scratch₀ (set scratch k v) (k + 1)
   more v l e =
-      record { within = omega arith; long = rw length-set (h .long); held = ap (λ xs. set xs k v) (h .held) ∙ extended }
+      record { within = omega arith; long = rw length-set (h .long); words = ap (λ xs. set xs k v) (h .words) ∙ extended }
     where
       some : 0 < length (drop k scratch₀)
       some = rw length-drop (omega (arith, r .room))
@@ -65,7 +65,7 @@ abbrev μ-loop : tie.MeasureT-loop
 
 loop-holds : tie.Need-loop-holds Inv-loop μ-loop
 unfolding values
-loop-holds c = record { within = omega arith; long = refl; held = refl }
+loop-holds c = record { within = omega arith; long = refl; words = refl }
 
 step-word-requires : tie.Need-step-word-requires Inv-loop μ-loop
 step-word-requires c κs = (running _ _ _ _ _ _ (c .before .before .before .before .before .before .pre) (c .before .before .loop .inv), c .before .loop-test .taken)
@@ -91,7 +91,7 @@ same-length c = search needs
 returns : tie.Need-returns Inv-loop μ-loop
 returns c =
     let e : c .before .loop .k ≡ c .before .before .before .before .before .args .n = omega (arith, c .before .loop .inv .within) in
-    rw (← e) (c .before .loop .inv .held)
+    rw (← e) (c .before .loop .inv .words)
 
 pub run-spec : {M : Type 1} → statement M
 run-spec =

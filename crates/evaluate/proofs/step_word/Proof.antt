@@ -121,30 +121,30 @@ returns : tie.Need-returns
 returns c =
     let b = c .before .before .before .before in
     let i = c .before .before .step .given in
-    input-word _ _ _ _ _ _ (entry b .pre .0 .held) _ (read b _ (i .1) .step) refl (omega (arith, c .shared-slice-known4 .given (i .0 .0)))
+    input-word _ _ _ _ _ _ (entry b .pre .0 .words) _ (read b _ (i .1) .step) refl (omega (arith, c .shared-slice-known4 .given (i .0 .0)))
 
 returns-2 : tie.Need-returns-2
 returns-2 c =
     let b = c .before .before .before in
-    constant-word _ _ _ _ _ _ (entry b .pre .0 .held) (read b _ (c .before .step2 .given .1) .step) (omega (arith, c .known-told2 .given))
+    constant-word _ _ _ _ _ _ (entry b .pre .0 .words) (read b _ (c .before .step2 .given .1) .step) (omega (arith, c .known-told2 .given))
 
 returns-3 : tie.Need-returns-3
 returns-3 c =
     let b = c .before .before .before .before .before .before in
     let i = read b _ (c .before .before .before .before .step3 .given .1) in
-    sum-word _ _ _ _ _ _ (entry b .pre .0 .held) _ _ (i .rule .0) (i .rule .1) (i .step) (c .wrapping-add-u64 .ensures)
+    sum-word _ _ _ _ _ _ (entry b .pre .0 .words) _ _ (i .rule .0) (i .rule .1) (i .step) (c .wrapping-add-u64 .ensures)
 
 returns-4 : tie.Need-returns-4
 returns-4 c =
     let b = c .before .before .before .before .before .before in
     let i = read b _ (c .before .before .before .before .step4 .given .1) in
-    difference-word _ _ _ _ _ _ (entry b .pre .0 .held) _ _ (i .rule .0) (i .rule .1) (i .step) (omega arith) (c .wrapping-sub-u64 .ensures)
+    difference-word _ _ _ _ _ _ (entry b .pre .0 .words) _ _ (i .rule .0) (i .rule .1) (i .step) (omega arith) (c .wrapping-sub-u64 .ensures)
 
 returns-5 : tie.Need-returns-5
 returns-5 c =
     let b = c .before .before .before .before .before .before in
     let i = read b _ (c .before .before .before .before .step5 .given .1) in
-    product-word _ _ _ _ _ _ (entry b .pre .0 .held) _ _ (i .rule .0) (i .rule .1) (i .step) (c .wrapping-mul .ensures)
+    product-word _ _ _ _ _ _ (entry b .pre .0 .words) _ _ (i .rule .0) (i .rule .1) (i .step) (c .wrapping-mul .ensures)
 
 pub step-word-spec : {M : Type 1} → statement M
 step-word-spec =

@@ -14,10 +14,10 @@ use Rattle.fields.specs.File.{headLength, sizesOf}
 use Rattle.fields.proofs.read_sizes.Statement.{statement}
 use Rattle.fields.proofs.read_sizes.Tie as tie
 
--- the sizes, given the word lengths
-sizes-read : (s widths : List ℕ) → widths ≡ take maxInputs (drop 4 s) ++ drop maxInputs (replicate maxInputs 0) → record { m = getD s 0 0; d = getD s 1 0; widths = widths } ≡ sizesOf s
+-- the sizes, given m and the word lengths
+sizes-read : (s widths : List ℕ) (m : ℕ) → m ≡ sizesOf s .m → widths ≡ take maxInputs (drop 4 s) ++ drop maxInputs (replicate maxInputs 0) → record { m = m; d = getD s 1 0; widths = widths } ≡ sizesOf s
 unfolding sizesOf
-sizes-read s widths e = λ i. record { m = getD s 0 0; d = getD s 1 0; widths = (e ∙ append-nil (take maxInputs (drop 4 s))) i }
+sizes-read s widths m f e = λ i. record { m = f i; d = getD s 1 0; widths = (e ∙ append-nil (take maxInputs (drop 4 s))) i }
 
 abbrev Inv-loop : tie.InvT-loop
 Inv-loop file widths₀ i₀ widths i = Copied (drop 4 file) (replicate maxInputs 0) maxInputs widths i
@@ -45,19 +45,26 @@ loop-less c = search needs
 
 loop-again : tie.Need-loop-again Inv-loop μ-loop
 loop-again c =
-    let s = now (c .before .before .before .args .file) in
-    let h : headLength ≤ length s = c .before .before .before .pre in
+    let entry = c .before .before .before .before in
+    let s = now (entry .args .file) in
+    let h : headLength ≤ length s = entry .pre in
     more _ _ _ _ _ (c .before .before .loop .inv) _ (c .before .loop-test .taken) (rw length-drop (omega arith)) (omega arith)
     (sym (getD-drop 4 s (c .before .before .loop .i) 0))
 
-shared-slice-read-t11 : tie.Need-shared-slice-read-t11 Inv-loop μ-loop
-shared-slice-read-t11 c = search needs
+output-length-requires : tie.Need-output-length-requires Inv-loop μ-loop
+output-length-requires c κs = search needs
+
+cast-t11 : tie.Need-cast-t11 Inv-loop μ-loop
+unfolding sizesOf
+cast-t11 c = omega (arith, c .output-length .ensures, c .before .before .before .shared-slice-known .given 0)
 
 shared-slice-read-t13 : tie.Need-shared-slice-read-t13 Inv-loop μ-loop
 shared-slice-read-t13 c = search needs
 
 returns : tie.Need-returns Inv-loop μ-loop
-returns c = sizes-read _ _ (whole _ _ _ _ _ (c .before .before .before .loop .inv) (c .before .before .loop-test .left))
+returns c =
+    let o = c .before in
+    sizes-read _ _ _ (o .output-length .ensures) (whole _ _ _ _ _ (o .before .before .loop .inv) (o .before .loop-test .left))
 
 pub read-sizes-spec : {M : Type 1} → statement M
 read-sizes-spec =
@@ -72,6 +79,7 @@ read-sizes-spec =
     add-i
     loop-less
     loop-again
-    shared-slice-read-t11
+    output-length-requires
+    cast-t11
     shared-slice-read-t13
     returns)

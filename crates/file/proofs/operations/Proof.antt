@@ -38,7 +38,7 @@ part-result-end : tie.Need-part-result-end
 part-result-end c = search needs
 
 returns : tie.Need-returns
-returns c = record { contents = sym (stretch-refused _ (refused (c .before))); place = λ e. absurd (refused (c .before) e) }
+returns c = record { contents = sym (stretch-refused _ (refused (c .before))); address = λ e. absurd (refused (c .before) e) }
 
 step-count-requires : tie.Need-step-count-requires
 step-count-requires c κs = passed c .long
@@ -64,7 +64,7 @@ returns-2 c =
       contents =
           ap (λ (n : ℕ). take n (drop headLength s)) (count ∙ c .before .step-count .ensures .0)
           ∙ sym (stretch-accepted s (sound (c .before .before)));
-      place = λ e. refl;
+      address = λ e. refl;
     }
 
 pub operations-spec : {M : Type 1} → statement M

@@ -72,7 +72,7 @@ module _
       more y scratch' v' e l q w step =
           record {
             asked = k .asked;
-            written = Written.more _ _ _ _ _ (k .written) y t (omega (arith, length-outputs)) (k .asked .held) (e ∙ output-here);
+            written = Written.more _ _ _ _ _ (k .written) y t (omega (arith, length-outputs)) (k .asked .tableRoom) (e ∙ output-here);
             long = l ∙ k .long;
             kept = q ∙ k .kept;
             full = w;
@@ -84,6 +84,13 @@ Inv-loop file n axes d count scratch₀ table₀ v₀ p₀ scratch table v p = F
 
 abbrev μ-loop : tie.MeasureT-loop
 μ-loop file n axes d count scratch₀ table₀ v₀ p₀ scratch table v p = count - p
+
+-- the places: the loop's head and its test, from the call that gives the output and from the round's end
+abbrev head : tie.After-slice-known3 Inv-loop μ-loop → tie.At-loop Inv-loop μ-loop
+head c = c .before .before .before .before .before .before
+
+abbrev tested : tie.After-slice-known3 Inv-loop μ-loop → tie.In-loop Inv-loop μ-loop
+tested c = c .before .before .before .before .before
 
 vector-at-requires : tie.Need-vector-at-requires Inv-loop μ-loop
 vector-at-requires c κs =
@@ -108,26 +115,26 @@ output-at-requires : tie.Need-output-at-requires Inv-loop μ-loop
 output-at-requires c κs = ready _ _ _ _ _ _ _ _ _ _ _ (c .before .before .before .loop .inv)
 
 mul-table : tie.Need-mul-table Inv-loop μ-loop
-mul-table c = let k = c .before .before .before .before .before .before .loop .inv in omega (arith, c .before .before .before .before .before .loop-test .taken, k .written .long, k .asked .held)
+mul-table c = let k = head c .loop .inv in omega (arith, tested c .loop-test .taken, k .written .long, k .asked .tableRoom)
 
 slice-write-table : tie.Need-slice-write-table Inv-loop μ-loop
-slice-write-table c = let k = c .before .before .before .before .before .before .loop .inv in omega (arith, c .before .before .before .before .before .loop-test .taken, k .written .long, k .asked .held)
+slice-write-table c = let k = head c .loop .inv in omega (arith, tested c .loop-test .taken, k .written .long, k .asked .tableRoom)
 
 next-vector-requires : tie.Need-next-vector-requires Inv-loop μ-loop
 next-vector-requires c κs =
-    let k = c .before .before .before .before .before .before .loop .inv in
-    (omega (arith, k .asked .inputs, k .asked .sound .inputsHigh), placed _ _ _ _ _ _ _ _ _ _ _ k (c .before .before .before .before .before .loop-test .taken))
+    let k = head c .loop .inv in
+    (omega (arith, k .asked .inputs, k .asked .sound .inputsHigh), placed _ _ _ _ _ _ _ _ _ _ _ k (tested c .loop-test .taken))
 
 add-p : tie.Need-add-p Inv-loop μ-loop
-add-p c = omega (arith, c .before .before .before .before .before .before .loop-test .taken)
+add-p c = omega (arith, tested (c .before) .loop-test .taken)
 
 loop-less : tie.Need-loop-less Inv-loop μ-loop
-loop-less c = omega (arith, c .before .before .before .before .before .before .loop-test .taken)
+loop-less c = omega (arith, tested (c .before) .loop-test .taken)
 
 loop-again : tie.Need-loop-again Inv-loop μ-loop
 loop-again c =
     let called = c .before .before .before .output-at in
-    more _ _ _ _ _ _ _ _ _ _ _ (c .before .before .before .before .before .before .before .loop .inv) (c .before .before .before .before .before .before .loop-test .taken)
+    more _ _ _ _ _ _ _ _ _ _ _ (head (c .before) .loop .inv) (tested (c .before) .loop-test .taken)
     _ _ _ (called .ensures .output) (called .kept .1 .1 .1 .0) (called .ensures .kept) (search needs) (c .next-vector .ensures)
 
 same-length : tie.Need-same-length Inv-loop μ-loop

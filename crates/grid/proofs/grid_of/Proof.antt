@@ -1,3 +1,5 @@
+-- `grid::grid_of` meets its contract. The loop's invariant: the first i axes are in their place, and the size is their product. Assumes
+-- nothing.
 use borrow.Author.Needs.{needs}
 use mathlib.Core.Path.{_≡_, refl, sym, _∙_, ap, ap₂, subst}
 use mathlib.Core.List.{List, _++_, map}

@@ -26,9 +26,13 @@ Inv-loop file1 file2 rows₀ other₀ list1 list2 inputs₀ d n1 n2 m w u along1
 abbrev μ-loop : tie.MeasureT-loop
 μ-loop file1 file2 rows₀ other₀ list1 list2 inputs₀ d n1 n2 m w u along1 along2 agreeing₀ t₀ rows other inputs agreeing t = u - t
 
--- the places: the entry, the loop's head, and the calls of a round
+-- the places: the entry, from where the axes are read and from the loop's head, that head, the calls of a round, and the second run of a round
+-- that ends the loop or does not
+abbrev start : tie.After-axes Inv-loop μ-loop → tie.Start Inv-loop μ-loop
+start c = c .before .before .before .before .before .before .before .before
+
 abbrev entry : tie.At-loop Inv-loop μ-loop → tie.Start Inv-loop μ-loop
-entry c = c .before .before .before .before .before .before .before .before .before
+entry c = start (c .before)
 
 abbrev head : tie.After-fill-row Inv-loop μ-loop → tie.At-loop Inv-loop μ-loop
 head c = c .before .before .before
@@ -38,6 +42,12 @@ filled c = c .before .before .before .before .before
 
 abbrev first : tie.After-refresh2 Inv-loop μ-loop → tie.After-refresh Inv-loop μ-loop
 first c = c .before .before .before .before .before
+
+abbrev ended : tie.Then1 Inv-loop μ-loop → tie.After-refresh2 Inv-loop μ-loop
+ended c = c .before .before .before .before .before .before
+
+abbrev going : tie.Else1 Inv-loop μ-loop → tie.After-refresh2 Inv-loop μ-loop
+going c = c .before .before .before .before .before .before
 
 -- the filled lanes are on the grid
 on-grid : (c : tie.After-fill-row Inv-loop μ-loop) → LanesOnGrid (entry (head c) .args .shape .w) (now (entry (head c) .args .file1)) (c .fill-row .last .0)
@@ -49,21 +59,21 @@ on-grid c =
 
 sub-u : tie.Need-sub-u Inv-loop μ-loop
 sub-u c =
-    let k = c .before .before .before .before .before .before .before .before .pre .0 in
+    let k = start c .pre .0 in
     omega (arith, plan.inputs (k .planned), k .planned .files .sound₁ .inputsLow)
 
 mul-u : tie.Need-mul-u Inv-loop μ-loop
 mul-u c =
-    let k = c .before .before .before .before .before .before .before .before .pre .0 in
+    let k = start c .pre .0 in
     omega (arith, plan.inputs (k .planned), k .planned .files .sound₁ .inputsHigh)
 
 array-read-u : tie.Need-array-read-u Inv-loop μ-loop
 array-read-u c =
-    let k = c .before .before .before .before .before .before .before .before .pre .0 in
+    let k = start c .pre .0 in
     omega (arith, plan.inputs (k .planned), k .planned .files .sound₁ .inputsLow, k .planned .files .sound₁ .inputsHigh)
 
 loop-holds : tie.Need-loop-holds Inv-loop μ-loop
-loop-holds c = agreed-start _ _ _ _ _ _ _ _ _ (c .before .before .before .before .before .before .before .before .pre .1 .1 .1 .onGrid)
+loop-holds c = agreed-start _ _ _ _ _ _ _ _ _ (start c .pre .1 .1 .1 .onGrid)
 
 sub-fill-row : tie.Need-sub-fill-row Inv-loop μ-loop
 sub-fill-row c =
@@ -115,40 +125,40 @@ first-unequal-requires c κs =
     let inv = h .loop .inv in (
       omega (arith, last₁ k, k .room₁, inv .long₁, run₁ .refresh .kept .1 .1 .1 .0),
       omega (arith, last₂ k, k .room₂ (entry h .pre .1 .0), inv .long₂, run₂ .refresh2 .kept .1 .1 .1 .0),
-      inv .few,
+      inv .high,
     )
 
 same-length : tie.Need-same-length Inv-loop μ-loop
 same-length c =
-    let r = first (c .before .before .before .before .before .before) in
+    let r = first (ended c) in
     r .refresh .kept .1 .1 .1 .0 ∙ head (filled r) .loop .inv .long₁
 
 same-length-2 : tie.Need-same-length-2 Inv-loop μ-loop
 same-length-2 c =
-    let r = c .before .before .before .before .before .before in
+    let r = ended c in
     r .refresh2 .kept .1 .1 .1 .0 ∙ head (filled (first r)) .loop .inv .long₂
 
 same-length-3 : tie.Need-same-length-3 Inv-loop μ-loop
 same-length-3 c =
-    let f = filled (first (c .before .before .before .before .before .before)) in
+    let f = filled (first (ended c)) in
     f .fill-row .kept .0 ∙ head f .loop .inv .long
 
 returns : tie.Need-returns Inv-loop μ-loop
-returns c = record { few = omega arith; agree = λ l x h. absurd (omega arith) }
+returns c = record { high = omega arith; agree = λ l x h. absurd (omega arith) }
 
 add-t : tie.Need-add-t Inv-loop μ-loop
 add-t c =
-    let f = filled (first (c .before .before .before .before .before .before)) in
+    let f = filled (first (going c)) in
     let k = entry (head f) .pre .0 .planned in
     let last = entry (head f) .args .plan .d - 1 in
     omega (arith, f .before .before .loop-test .taken, axis-at k last (omega (arith, plan.inputs k, k .files .sound₁ .inputsLow)), file-axis-most _ (k .files .sound₁) last)
 
 loop-less : tie.Need-loop-less Inv-loop μ-loop
-loop-less c = omega (arith, filled (first (c .before .before .before .before .before .before)) .before .before .loop-test .taken)
+loop-less c = omega (arith, filled (first (going c)) .before .before .loop-test .taken)
 
 loop-again : tie.Need-loop-again Inv-loop μ-loop
 loop-again c =
-    let place = c .before .before .before .before .before .before in
+    let place = going c in
     let f = filled (first place) in
     let e = entry (head f) in
     let q = e .pre in
@@ -173,7 +183,7 @@ same-length-6 c = c .before .loop .inv .long
 returns-2 : tie.Need-returns-2 Inv-loop μ-loop
 returns-2 c =
     let k = c .before .loop .inv in
-    record { few = k .few; agree = λ l x h f less. k .agree l x h f (omega (arith, c .loop-test .left)) }
+    record { high = k .high; agree = λ l x h f less. k .agree l x h f (omega (arith, c .loop-test .left)) }
 
 pub agreeing-apart-spec : {M : Type 1} → statement M
 agreeing-apart-spec =

@@ -28,9 +28,15 @@ both-shown :
     (w : ℕ) (s₁ s₂ x saved : List ℕ) (l t : ℕ) → sizesOf s₁ ≡ sizesOf s₂ → Shown w s₁ x saved l t → Shown w s₂ x saved l t → outputOf s₁ x ≡ outputOf s₂ x
 both-shown w s₁ s₂ x saved l t same h₁ h₂ = sym h₁ ∙ ap (λ (z : Sizes). lane w saved t l % 2 ^ z .m) same ∙ h₂
 
--- the places: the entry, and the call that saves the outputs
+-- the places: the entry, from where the axes are read and from the call that saves the outputs, and that call from the end
+abbrev start : tie.After-axes → tie.Start
+start c = c .before .before .before .before .before .before .before .before
+
 abbrev entry : tie.After-save-outputs → tie.Start
-entry c = c .before .before .before .before .before .before .before .before .before .before .before .before
+entry c = start (c .before .before .before .before)
+
+abbrev saving : tie.After-slice-known8 → tie.After-save-outputs
+saving c = c .before .before .before .before .before .before .before .before .before .before .before .before .before .before
 
 axis : (c : tie.Start) → lastAxis (c .args .plan) ≡ getD (axesOf (sizesOf (now (c .args .file1)))) (c .args .plan .d - 1) 0
 axis c =
@@ -45,22 +51,22 @@ saved-room c =
 
 sub-u : tie.Need-sub-u
 sub-u c =
-    let k = c .before .before .before .before .before .before .before .before .pre .0 in
+    let k = start c .pre .0 in
     omega (arith, plan.inputs (k .planned), k .planned .files .sound₁ .inputsLow)
 
 mul-u : tie.Need-mul-u
 mul-u c =
-    let k = c .before .before .before .before .before .before .before .before .pre .0 in
+    let k = start c .pre .0 in
     omega (arith, plan.inputs (k .planned), k .planned .files .sound₁ .inputsHigh)
 
 array-read-u : tie.Need-array-read-u
 array-read-u c =
-    let k = c .before .before .before .before .before .before .before .before .pre .0 in
+    let k = start c .pre .0 in
     omega (arith, plan.inputs (k .planned), k .planned .files .sound₁ .inputsLow, k .planned .files .sound₁ .inputsHigh)
 
 save-outputs-requires : tie.Need-save-outputs-requires
 save-outputs-requires c κs =
-    let e = c .before .before .before .before .before .before .before .before .before .before .before in
+    let e = start (c .before .before .before) in
     let q = e .pre in (
       room₁ (q .0) _ (q .1 .1 .1 .room),
       (
@@ -98,25 +104,25 @@ matching-lanes-requires c κs =
     )
 
 same-length : tie.Need-same-length
-same-length c = c .before .before .before .before .matching-lanes .kept .1 .1 .0 ∙ c .before .before .before .before .before .before .before .before .before .before .before .before .before .before .save-outputs .kept .1 .1 .0
+same-length c = c .before .before .before .before .matching-lanes .kept .1 .1 .0 ∙ saving c .save-outputs .kept .1 .1 .0
 
 same-length-2 : tie.Need-same-length-2
-same-length-2 c = c .before .before .before .before .before .before .before .before .before .before .before .before .before .before .save-outputs .kept .1 .1 .1 .1 .1 .0
+same-length-2 c = saving c .save-outputs .kept .1 .1 .1 .1 .1 .0
 
 same-length-3 : tie.Need-same-length-3
-same-length-3 c = c .before .before .before .before .matching-lanes .kept .1 .1 .1 .1 .0 ∙ c .before .before .before .before .before .before .before .before .before .before .before .before .before .before .save-outputs .kept .1 .1 .1 .1 .0
+same-length-3 c = c .before .before .before .before .matching-lanes .kept .1 .1 .1 .1 .0 ∙ saving c .save-outputs .kept .1 .1 .1 .1 .0
 
 returns : tie.Need-returns
 returns c =
-    let s = c .before .before .before .before .before .before .before .before .before .before .before .before .before .before in
+    let s = saving c in
     let saved = s .save-outputs .ensures in
     let matching = c .before .before .before .before .matching-lanes .ensures in
     record {
-      few = matching .few;
+      high = matching .high;
       agree =
           λ l x h f below. both-shown _ _ _ x (s .save-outputs .last .1 .1 .1 .1 .1 .0) l _ (entry s .pre .0 .planned .files .same)
-          (saved .outputs l x (omega (arith, h, matching .few)) f below)
-          (matching .shown l x h (λ i g. saved .fronts i l g (omega (arith, h, matching .few)) ∙ f i g) below);
+          (saved .outputs l x (omega (arith, h, matching .high)) f below)
+          (matching .shown l x h (λ i g. saved .fronts i l g (omega (arith, h, matching .high)) ∙ f i g) below);
     }
 
 pub agreeing-in-turn-spec : {M : Type 1} → statement M

@@ -76,13 +76,13 @@ module _
           let within : r + w ≤ stop = omega (arith, k .high) in
           le-trans (mul-le-mul-right u within) (k .inside)
 
-      rows-left : r + w ≤ size (take (d - 1) axes)
-      rows-left = le-of-mul-le-mul-right (rw (size-lines axes d some (k .enough)) at block) last-least
+      lines-left : r + w ≤ size (take (d - 1) axes)
+      lines-left = le-of-mul-le-mul-right (rw (size-lines axes d some (k .enough)) at block) last-least
 
-      -- the lanes set to the rows of the grid from r on, with 0 for the last input, are on the grid
+      -- the lanes set to the lines of the grid from r on, with 0 for the last input, are on the grid
       on-grid : (before inputs' : List ℕ) → LanesSet w (take (d - 1) axes) r w before inputs' → LanesOnGrid w s₁ inputs'
       on-grid before inputs' wr i l h t =
-          let line : r + l < size (take (d - 1) axes) = omega (arith, rows-left) in
+          let line : r + l < size (take (d - 1) axes) = omega (arith, lines-left) in
           let axis = axis-at (k .prepared .planned) i (omega (arith, h, plan.inputs (k .prepared .planned))) in
           let at = wr .set i l (omega (arith, h, k .prepared .planned .files .sound₁ .inputsHigh)) t in
           elim (decLt i (d - 1)) [
@@ -140,7 +140,8 @@ Inv-loop file1 file2 plan shape rows1₀ rows2₀ list1 list2 flags d axes w sto
 abbrev μ-loop : tie.MeasureT-loop
 μ-loop file1 file2 plan shape rows1₀ rows2₀ list1 list2 flags d axes w stop c1 c2 counts inputs₀ wide r₀ rows1 rows2 inputs r = stop - r
 
--- the places: the entry, the calls that list the steps, the loop's head, and the call that sets the lanes
+-- the places: the entry, the calls that list the steps, the loop's head, the call that sets the lanes, and the group of a round that ends the loop
+-- or does not
 abbrev entry : tie.After-list-dependent Inv-loop μ-loop → tie.Start Inv-loop μ-loop
 entry c = c .before .before .before .before .before .before .before .before .before .before .before
 
@@ -155,6 +156,12 @@ head c = c .before .before .before
 
 abbrev lanes : tie.After-agreeing-lanes Inv-loop μ-loop → tie.After-set-lanes Inv-loop μ-loop
 lanes c = c .before .before .before .before .before .before .before
+
+abbrev ended : tie.Then1 Inv-loop μ-loop → tie.After-agreeing-lanes Inv-loop μ-loop
+ended c = c .before .before .before .before .before .before
+
+abbrev going : tie.Else1 Inv-loop μ-loop → tie.After-agreeing-lanes Inv-loop μ-loop
+going c = c .before .before .before .before .before .before
 
 -- the flags past those of the steps are as at entry
 flags-kept :
@@ -231,7 +238,7 @@ set-lanes-requires c κs =
         room = omega (arith, width-most (k .prepared .width), k .lanes);
         some = omega (arith, width-least (k .prepared .width));
         few = omega arith;
-        inside = rows-left k (c .before .loop-test .taken);
+        inside = lines-left k (c .before .loop-test .taken);
       },
     )
 
@@ -260,33 +267,33 @@ agreeing-lanes-requires c κs =
 
 add-result : tie.Need-add-result Inv-loop μ-loop
 add-result c =
-    let s = lanes (c .before .before .before .before .before .before) in
+    let s = lanes (ended c) in
     omega (arith, s .before .before .loop-test .taken, c .if1 .taken, stop-fits (head s .loop .inv))
 
 same-length : tie.Need-same-length Inv-loop μ-loop
 same-length c =
-    let b = c .before .before .before .before .before .before in
+    let b = ended c in
     b .agreeing-lanes .kept .1 .1 .1 .1 .0 ∙ head (lanes b) .loop .inv .long₁
 
 same-length-2 : tie.Need-same-length-2 Inv-loop μ-loop
 same-length-2 c =
-    let b = c .before .before .before .before .before .before in
+    let b = ended c in
     b .agreeing-lanes .kept .1 .1 .1 .1 .1 .0 ∙ head (lanes b) .loop .inv .long₂
 
 same-length-3 : tie.Need-same-length-3 Inv-loop μ-loop
-same-length-3 c = first (second (head (lanes (c .before .before .before .before .before .before)))) .list-dependent .kept .1 .1 .1 .1 .0
+same-length-3 c = first (second (head (lanes (ended c)))) .list-dependent .kept .1 .1 .1 .1 .0
 
 same-length-4 : tie.Need-same-length-4 Inv-loop μ-loop
-same-length-4 c = second (head (lanes (c .before .before .before .before .before .before))) .list-dependent2 .kept .1 .1 .1 .1 .0
+same-length-4 c = second (head (lanes (ended c))) .list-dependent2 .kept .1 .1 .1 .1 .0
 
 same-length-5 : tie.Need-same-length-5 Inv-loop μ-loop
 same-length-5 c =
-    let p = second (head (lanes (c .before .before .before .before .before .before))) in
+    let p = second (head (lanes (ended c))) in
     p .list-dependent2 .kept .1 .1 .1 .0 ∙ first p .list-dependent .kept .1 .1 .1 .0
 
 returns : tie.Need-returns Inv-loop μ-loop
 returns c =
-    let place = c .before .before .before .before .before .before in
+    let place = ended c in
     let group = place .agreeing-lanes in
     let s = lanes place in
     let t = s .before .before .loop-test .taken in
@@ -294,28 +301,28 @@ returns c =
     record {
       low = omega (arith, k .low);
       high = omega (arith, k .high, t, c .if1 .taken);
-      agree = passed k t (s .set-lanes .last .0) (s .set-lanes .ensures .set) _ (group .ensures .few) (group .ensures .agree);
+      agree = passed k t (s .set-lanes .last .0) (s .set-lanes .ensures .set) _ (group .ensures .high) (group .ensures .agree);
       kept = flags-kept (second (head s));
     }
 
 add-r : tie.Need-add-r Inv-loop μ-loop
 add-r c =
-    let s = lanes (c .before .before .before .before .before .before) in
+    let s = lanes (going c) in
     omega (arith, s .before .before .loop-test .taken, stop-fits (head s .loop .inv))
 
 loop-less : tie.Need-loop-less Inv-loop μ-loop
 loop-less c =
-    let s = lanes (c .before .before .before .before .before .before) in
+    let s = lanes (going c) in
     omega (arith, s .before .before .loop-test .taken, width-least (head s .loop .inv .prepared .width))
 
 loop-again : tie.Need-loop-again Inv-loop μ-loop
 loop-again c =
-    let place = c .before .before .before .before .before .before in
+    let place = going c in
     let s = lanes place in
     let k = head s .loop .inv in
     let set = s .set-lanes in
     let group = place .agreeing-lanes in
-    more k (s .before .before .loop-test .taken) (set .last .0) (set .ensures .set) _ (group .ensures .few) (group .ensures .agree) _ _ _ (group .kept .1 .1 .1 .1 .0)
+    more k (s .before .before .loop-test .taken) (set .last .0) (set .ensures .set) _ (group .ensures .high) (group .ensures .agree) _ _ _ (group .kept .1 .1 .1 .1 .0)
     (group .kept .1 .1 .1 .1 .1 .0) (group .kept .1 .1 .1 .1 .1 .1 .1 .1 .1 .0 ∙ set .kept .0 ∙ k .lanes) (c .if1 .left)
 
 same-length-6 : tie.Need-same-length-6 Inv-loop μ-loop

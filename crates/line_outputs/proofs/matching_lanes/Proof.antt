@@ -15,7 +15,7 @@ use Rattle.line_outputs.proofs.matching_lanes.Tie as tie
 record Matched (a : Along) (s inputs₀ before rows inputs saved : List ℕ) (r t : ℕ) : Type 0 where
   walked : Walked a s inputs₀ before rows inputs t
   within : t ≤ a .u
-  few : r ≤ a .w
+  high : r ≤ a .w
   shown : SavedTo a s inputs₀ saved r t
 
 abbrev Inv-loop : tie.InvT-loop
@@ -46,7 +46,7 @@ loop-holds c =
     record {
       walked = walk-start _ _ _ _ (q .1 .0 .onGrid);
       within = omega arith;
-      few = omega arith;
+      high = omega arith;
       shown = λ l x g f h. absurd (omega arith);
     }
 
@@ -90,7 +90,7 @@ first-unequal-requires c κs =
     let inv = head f .loop .inv in (
       omega (arith, before-row (a .w) (head f .loop .at) (a .u) (f .before .before .loop-test .taken), q .1 .1),
       omega (arith, before-row (a .w) (a .n - 1) (a .n) (omega (arith, q .0 .count, q .0 .sound .countLow)), q .0 .stepRows, inv .walked .longRows, r .refresh .kept .1 .1 .1 .0),
-      inv .few,
+      inv .high,
     )
 
 same-length : tie.Need-same-length Inv-loop μ-loop
@@ -104,7 +104,7 @@ same-length-2 c =
     f .fill-row .kept .0 ∙ head f .loop .inv .walked .long
 
 returns : tie.Need-returns Inv-loop μ-loop
-returns c = record { few = omega arith; shown = λ l x h. absurd (omega arith) }
+returns c = record { high = omega arith; shown = λ l x h. absurd (omega arith) }
 
 add-at : tie.Need-add-at Inv-loop μ-loop
 add-at c =
@@ -123,14 +123,14 @@ loop-again c =
     let inv = head f .loop .inv in
     let below = f .before .before .loop-test .taken in
     let next =
-    match-step (q .1 .0) (q .0 .sound) (inv .walked) below (f .fill-row .ensures) (r .refresh .last .1 .1 .1 .0) (r .refresh .ensures) _ _ _ _ (q .0 .count) (head f .before .output-length .ensures) (inv .few)
+    match-step (q .1 .0) (q .0 .sound) (inv .walked) below (f .fill-row .ensures) (r .refresh .last .1 .1 .1 .0) (r .refresh .ensures) _ _ _ _ (q .0 .count) (head f .before .output-length .ensures) (inv .high)
     (inv .shown) (c .before .first-unequal .ensures) in
     record {
       walked =
           walk-step (q .1 .0) (q .0 .sound) (inv .walked) below (f .fill-row .ensures) (r .refresh .last .1 .1 .1 .0) (r .refresh .ensures) (f .fill-row .kept .0)
           (r .refresh .kept .1 .1 .1 .0);
       within = omega (arith, below);
-      few = omega (arith, next .0, inv .few);
+      high = omega (arith, next .0, inv .high);
       shown = next .1;
     }
 
@@ -143,7 +143,7 @@ same-length-4 c = c .before .loop .inv .walked .long
 returns-2 : tie.Need-returns-2 Inv-loop μ-loop
 returns-2 c =
     let inv = c .before .loop .inv in
-    record { few = inv .few; shown = λ l x g f h. inv .shown l x g f (omega (arith, h, c .loop-test .left)) }
+    record { high = inv .high; shown = λ l x g f h. inv .shown l x g f (omega (arith, h, c .loop-test .left)) }
 
 pub matching-lanes-spec : {M : Type 1} → statement M
 matching-lanes-spec =

@@ -78,7 +78,7 @@ put-verdict-requires c κs =
       room-second (room-first _ _ (room sizes)) (first .put-grid .ensures),
     )
 
--- the first two lines, at the place after them
+-- the first two lines, at the index after them
 two : (c : tie.After-put-verdict) →
     let first = c .before .before .before .before in
     let sizes = first .before .before .before in

@@ -22,7 +22,7 @@ use Rattle.spans.proofs.by_lines.Tie as tie
 line-most : (u end line : ℕ) → line ≤ end / u → line * u ≤ end
 line-most u end line h = le-trans (mul-le-mul-right u h) (div-mul-le-self end u)
 
--- a search that passes the head goes on behind a stretch with none
+-- a search that passes the head goes on behind a span with none
 passed :
     (f : ℕ → Bool) (from head q end : ℕ) → from ≤ head → head ≤ q → q ≤ end → head ≤ first f from (head - from) → NoneBelow f head q →
     first f from (end - from) ≡ first f q (end - q)
@@ -30,12 +30,19 @@ passed f from head q end low high inside past none =
     first-past f from q end (omega arith) inside
     (λ p l h. elim (decLt p head) [ yes before ↦ first-before f from (head - from) p l (omega arith) | no behind ↦ none p (omega arith) h ])
 
--- the places: the entry, past the guard, the search over the head, and the lines
+-- the places: the entry, from where the axes are read and from past the guard, the search over the head, also from where it ends the search, and
+-- the lines
+abbrev start : tie.After-axes → tie.Start
+start c = c .before .before .before .before .before .before .before .before
+
 abbrev entry : tie.Else1 → tie.Start
-entry c = c .before .before .before .before .before .before .before .before .before .before .before
+entry c = start (c .before .before .before)
 
 abbrev guarded : tie.After-by-batches2 → tie.Else1
 guarded c = c .before .before .before
+
+abbrev ended : tie.Then2 → tie.After-by-batches2
+ended c = c .before .before .before .before .before
 
 abbrev searched : tie.After-agreed-lines → tie.After-by-batches2
 searched c = c .before .before .before .before .before .before .before .before .before .before .before
@@ -63,35 +70,35 @@ middle c =
     let a = entry c .args in
     let order : c .before .before .lines-from .result ≤ a .span .end / lastAxis (a .plan) =
     omega (arith, c .if1 .left, c .before .between .ensures, width-least (entry c .pre .0 .width)) in
-    record { order = order; after = c .before .before .lines-from .ensures .after; before = line-most (lastAxis (a .plan)) (a .span .end) _ order }
+    record { order = order; after = c .before .before .lines-from .ensures .low; before = line-most (lastAxis (a .plan)) (a .span .end) _ order }
 
 sub-u : tie.Need-sub-u
 sub-u c =
-    let k = c .before .before .before .before .before .before .before .before .pre .0 .planned in
+    let k = start c .pre .0 .planned in
     omega (arith, plan.inputs k, k .files .sound₁ .inputsLow)
 
 mul-u : tie.Need-mul-u
 mul-u c =
-    let k = c .before .before .before .before .before .before .before .before .pre .0 .planned in
+    let k = start c .pre .0 .planned in
     omega (arith, plan.inputs k, k .files .sound₁ .inputsHigh)
 
 array-read-u : tie.Need-array-read-u
 array-read-u c =
-    let k = c .before .before .before .before .before .before .before .before .pre .0 .planned in
+    let k = start c .pre .0 .planned in
     omega (arith, plan.inputs k, k .files .sound₁ .inputsLow, k .files .sound₁ .inputsHigh)
 
 div-stop : tie.Need-div-stop
-div-stop c = axis-least (c .before .before .before .before .before .before .before .before)
+div-stop c = axis-least (start c)
 
 lines-from-requires : tie.Need-lines-from-requires
-lines-from-requires c κs = axis-least (c .before .before .before .before .before .before .before .before)
+lines-from-requires c κs = axis-least (start c)
 
 between-requires : tie.Need-between-requires
 between-requires c κs = search needs
 
 by-batches-requires : tie.Need-by-batches-requires
 by-batches-requires c κs =
-    let q = c .before .before .before .before .before .before .before .before .before .before .before .before .before .pre in
+    let q = start (c .before .before .before .before .before) .pre in
     (q .0, (omega (arith, q .1 .1 .0), q .1 .1 .1))
 
 same-length : tie.Need-same-length
@@ -113,14 +120,14 @@ by-batches-requires-2 c κs =
     (q .0, (mid .after, omega (arith, mid .before, q .1 .1 .1)))
 
 same-length-3 : tie.Need-same-length-3
-same-length-3 c = c .before .before .before .before .before .by-batches2 .kept .1 .1 .1 .1 .1 .1 .0
+same-length-3 c = ended c .by-batches2 .kept .1 .1 .1 .1 .1 .1 .0
 
 same-length-4 : tie.Need-same-length-4
-same-length-4 c = c .before .before .before .before .before .by-batches2 .kept .1 .1 .1 .1 .1 .1 .1 .0
+same-length-4 c = ended c .by-batches2 .kept .1 .1 .1 .1 .1 .1 .1 .0
 
 returns-2 : tie.Need-returns-2
 returns-2 c =
-    let b = c .before .before .before .before .before in
+    let b = ended c in
     let mid = middle (guarded b) in
     let found = b .by-batches2 .ensures in
     record {

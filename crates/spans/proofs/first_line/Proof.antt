@@ -21,12 +21,12 @@ add-result c =
 returns : tie.Need-returns
 returns c =
     let a = c .before .args in
-    record { after = omega (arith, lt-div-mul-add {a = a .p} (c .before .pre)); near = omega (arith, c .if1 .taken) }
+    record { low = omega (arith, lt-div-mul-add {a = a .p} (c .before .pre)); high = omega (arith, c .if1 .taken) }
 
 returns-2 : tie.Need-returns-2
 returns-2 c =
     let a = c .before .args in
-    record { after = c .if1 .left; near = omega (arith, div-mul-le-self (a .p) (a .u), c .before .pre) }
+    record { low = c .if1 .left; high = omega (arith, div-mul-le-self (a .p) (a .u), c .before .pre) }
 
 pub first-line-spec : {M : Type 1} → statement M
 first-line-spec = tie.close (tie.spec div-line mul-if1 add-result returns returns-2)

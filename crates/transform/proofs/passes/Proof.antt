@@ -30,8 +30,8 @@ Inv-loop cells₀ d sum axes w₀ i₀ cells w i =
 abbrev μ-loop : tie.MeasureT-loop
 μ-loop cells₀ d sum axes w₀ i₀ cells w i = i
 
-eight : (c : tie.Start Inv-loop μ-loop) → length (c .args .t2) ≡ maxInputs
-eight c = good-length (eInt w64) maxInputs (c .args .t2) _ (c .good .1 .0)
+length-axes : (c : tie.Start Inv-loop μ-loop) → length (c .args .t2) ≡ maxInputs
+length-axes c = good-length (eInt w64) maxInputs (c .args .t2) _ (c .good .1 .0)
 
 -- the axis before i, and the axes from it on
 axis :
@@ -43,7 +43,7 @@ axis :
 axis c =
     let a = c .before .before .before .args in
     let l = c .before .loop in
-    let e = drop-axis (a .t2) (a .d) (l .i) (omega arith) (omega arith) (omega (arith, eight (c .before .before .before))) in (
+    let e = drop-axis (a .t2) (a .d) (l .i) (omega arith) (omega arith) (omega (arith, length-axes (c .before .before .before))) in (
       e,
       ap₂ (λ (n k : ℕ). n % (getD (a .t2) (l .i - 1) 0 * k)) (sym (c .before .before .before .pre .counted)) (l .inv .1)
           ∙ size-multiple (take (a .d) (a .t2)) (l .i - 1) (getD (a .t2) (l .i - 1) 0) (drop (l .i) (take (a .d) (a .t2))) e,
@@ -54,7 +54,7 @@ unfolding size
 loop-holds c =
     let a = c .before .args in
     let none : drop (a .d) (take (a .d) (a .t2)) ≡ [] =
-    drop-of-length-le (take (a .d) (a .t2)) {i = a .d} (omega (arith, length-take-le (a .d) (a .t2) (omega (arith, eight (c .before))))) in (
+    drop-of-length-le (take (a .d) (a .t2)) {i = a .d} (omega (arith, length-take-le (a .d) (a .t2) (omega (arith, length-axes (c .before))))) in (
       omega arith,
       sym (ap size none),
       omega arith,

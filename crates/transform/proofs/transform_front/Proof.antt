@@ -11,12 +11,12 @@ use Rattle.transform.proofs.transform_front.Tie as tie
 slice-aggregate-transform : tie.Need-slice-aggregate-transform
 slice-aggregate-transform c =
     let start = c .before .before in
-    sym (length-take-le (start .args .count) (now (start .args .cells)) (start .pre .held))
+    sym (length-take-le (start .args .count) (now (start .args .cells)) (start .pre .room))
 
 transform-requires : tie.Need-transform-requires
 transform-requires c κs =
     let start = c .before .before in
-    rw (length-take-le (start .args .count) (now (start .args .cells)) (start .pre .held)) (start .pre .grid, start .pre .bits)
+    rw (length-take-le (start .args .count) (now (start .args .cells)) (start .pre .room)) (start .pre .grid, start .pre .bits)
 
 returns : tie.Need-returns
 returns c =

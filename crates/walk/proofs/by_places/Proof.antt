@@ -102,6 +102,13 @@ Inv-loop file1 file2 plan span scratch₀ axes v₀ p₀ scratch v p = Passed fi
 abbrev μ-loop : tie.MeasureT-loop
 μ-loop file1 file2 plan span scratch₀ axes v₀ p₀ scratch v p = span .end - p
 
+-- the places: the loop's head and its test, from the comparison of a round
+abbrev head : tie.After-differ-at Inv-loop μ-loop → tie.At-loop Inv-loop μ-loop
+head c = c .before .before .before .before .before
+
+abbrev tested : tie.After-differ-at Inv-loop μ-loop → tie.Then1 Inv-loop μ-loop
+tested c = c .before .before .before
+
 vector-at-requires : tie.Need-vector-at-requires Inv-loop μ-loop
 vector-at-requires c κs =
     let k = c .before .before .before .before .pre in
@@ -130,30 +137,31 @@ differ-at-requires c κs =
     (ready₁ k t, (ready₂ k t, on-grid k t))
 
 same-length : tie.Need-same-length Inv-loop μ-loop
-same-length c = c .before .before .before .differ-at .kept .1 .1 .1 .1 .1 .0 ∙ c .before .before .before .before .before .before .before .before .loop .inv .long
+same-length c = c .before .before .before .differ-at .kept .1 .1 .1 .1 .1 .0 ∙ head (c .before .before .before) .loop .inv .long
 
 returns : tie.Need-returns Inv-loop μ-loop
 returns c =
-    let k = c .before .before .before .before .before .before .before .before .loop .inv in
+    let k = head (c .before .before .before) .loop .inv in
     let e = c .before .before .before .differ-at .ensures in
-    record { found = found k (c .before .before .before .before .before .before .if1 .taken) _ (e .differ) (c .if2 .taken); kept = e .kept ∙ k .kept }
+    record { found = found k (tested (c .before .before .before) .if1 .taken) _ (e .differ) (c .if2 .taken); kept = e .kept ∙ k .kept }
 
 next-vector-requires : tie.Need-next-vector-requires Inv-loop μ-loop
 next-vector-requires c κs =
-    let k = c .before .before .before .before .before .before .before .before .loop .inv in
+    let k = head (c .before .before .before) .loop .inv in
     let r = k .span in
-    (omega (arith, plan.inputs (r .planned), r .planned .files .sound₁ .inputsHigh), placed k (c .before .before .before .before .before .before .if1 .taken))
+    (omega (arith, plan.inputs (r .planned), r .planned .files .sound₁ .inputsHigh), placed k (tested (c .before .before .before) .if1 .taken))
 
 add-p : tie.Need-add-p Inv-loop μ-loop
-add-p c = omega (arith, c .before .before .before .before .before .before .before .if1 .taken)
+add-p c = omega (arith, tested (c .before .before .before .before) .if1 .taken)
 
 loop-less : tie.Need-loop-less Inv-loop μ-loop
-loop-less c = omega (arith, c .before .before .before .before .before .before .before .if1 .taken)
+loop-less c = omega (arith, tested (c .before .before .before .before) .if1 .taken)
 
 loop-again : tie.Need-loop-again Inv-loop μ-loop
 loop-again c =
-    let called = c .before .before .before .before .differ-at in
-    more (c .before .before .before .before .before .before .before .before .before .loop .inv) (c .before .before .before .before .before .before .before .if1 .taken)
+    let d = c .before .before .before .before in
+    let called = d .differ-at in
+    more (head d .loop .inv) (tested d .if1 .taken)
     _ (called .ensures .differ) _ _ (c .before .if2 .left) (called .kept .1 .1 .1 .1 .1 .0) (called .ensures .kept) (search needs) (c .next-vector .ensures)
 
 same-length-2 : tie.Need-same-length-2 Inv-loop μ-loop

@@ -1,4 +1,4 @@
--- `writing::put_numbers` meets its contract. The loop's invariant: the first i numbers are written, up to the next place.
+-- `writing::put_numbers` meets its contract. The loop's invariant: the first i numbers are written, up to the next index.
 -- Assumes nothing.
 use Prim.Native.Nat.{_-_, _≤_}
 use mathlib.Core.Path.{_≡_, refl}

@@ -1,8 +1,8 @@
 //! Random datapaths of chosen counts of steps, in both orders of a pair, with inputs used and
-//! unused; such as differ in few places of a row; and the entries of longer scratch slices.
+//! unused; such as differ in few places of a line; and the entries of longer scratch slices.
 
 use super::bench::scratch;
-use super::runs::{ACCEPTED, LANES, Runs, WAYS, row};
+use super::runs::{ACCEPTED, LANES, Runs, WAYS, line};
 use crate::bench::{Bench, Outcome};
 use reference::file::Datapath;
 use reference::grid::{axes, size};
@@ -13,7 +13,7 @@ use reference::sizes::Sizes;
 use reference::twins::{Kind, barely, countable, twin};
 
 pub const COUNTS_SEED: u64 = 0xc0a7_75e5_eed0;
-pub const ROWS_SEED: u64 = 0xc0a7_75e5_eed1;
+pub const LINES_SEED: u64 = 0xc0a7_75e5_eed1;
 pub const SCRATCH_SEED: u64 = 0xc0a7_75e5_eed2;
 
 /// Output word lengths, around that of a 32-bit product, and counts of steps, around 64, 256 and 512.
@@ -88,7 +88,7 @@ fn pair(random: &mut Random, sizes: &Sizes, counts: [usize; 2]) -> [Datapath; 2]
 }
 
 /// A pair of these counts of steps, at least 63, whose outputs do not depend on the last input but
-/// for one bit, while most steps do: a step that is left as it was along a row hides the difference.
+/// for one bit, while most steps do: a step that is left as it was along a line hides the difference.
 fn hidden(random: &mut Random, sizes: &Sizes, counts: [usize; 2]) -> [Datapath; 2] {
     let last = sizes.d() - 1;
     let before: Vec<usize> = (0..last).collect();
@@ -108,21 +108,21 @@ fn hidden(random: &mut Random, sizes: &Sizes, counts: [usize; 2]) -> [Datapath; 
 }
 
 fn position(random: &mut Random, survey: &Survey) -> u64 {
-    let (row, count) = (row(survey), survey.count());
+    let (line, count) = (line(survey), survey.count());
     match random.below(6) {
         0 | 1 => 0,
         2 => count - 1 - random.below(count.min(2 * LANES)),
-        3 => random.below(count.min(2 * row)),
+        3 => random.below(count.min(2 * line)),
         _ => random.below(count),
     }
 }
 
 fn budget(random: &mut Random, survey: &Survey, position: u64) -> u64 {
-    let (row, left) = (row(survey), survey.count() - position);
+    let (line, left) = (line(survey), survey.count() - position);
     match random.below(8) {
         0 => random.between(1, LANES - 1),
         1 => random.between(LANES, 3 * LANES),
-        2 => LANES * row + random.below(2 * row),
+        2 => LANES * line + random.below(2 * line),
         3 => left,
         4 => (left - 1).max(1),
         5 => u64::MAX,
@@ -149,8 +149,8 @@ pub fn counts(bench: &mut Bench) -> Outcome {
     runs.judge(bench, &WAYS, &ACCEPTED, 100)
 }
 
-pub fn rows(bench: &mut Bench) -> Outcome {
-    let mut random = Random::new(ROWS_SEED);
+pub fn lines(bench: &mut Bench) -> Outcome {
+    let mut random = Random::new(LINES_SEED);
     let mut runs = Runs::default();
     for (index, m) in WORDS.into_iter().enumerate() {
         for (row, &first) in COUNTS[2..].iter().enumerate() {

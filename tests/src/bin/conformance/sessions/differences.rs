@@ -1,9 +1,9 @@
 //! Pairs that differ at chosen places: first at each place of a grid in turn, at places far inside
-//! large grids, and at several places of one block of rows, where the first along the rows is not
+//! large grids, and at several places of one group of lines, where the first along the lines is not
 //! the first in dictionary order.
 
 use super::bench::scratch;
-use super::runs::{ACCEPTED, LANES, Runs, WAYS, Way, row};
+use super::runs::{ACCEPTED, LANES, Runs, WAYS, Way, line};
 use crate::bench::{Bench, Outcome};
 use reference::file::Datapath;
 use reference::grid::{axes, place_of, size, vector_at};
@@ -34,7 +34,7 @@ const GRIDS: [(u64, &[u64]); 10] = [
     (16, &[1, 1, 1, 1, 1, 16]),
 ];
 
-/// Large grids, of which the rows before a difference are run.
+/// Large grids, of which the lines before a difference are run.
 const LARGE: [(u64, &[u64]); 8] = [
     (64, &[64; 8]),
     (64, &[64, 64, 64, 64, 64, 64, 64, 1]),
@@ -46,8 +46,8 @@ const LARGE: [(u64, &[u64]); 8] = [
     (2, &[2; 8]),
 ];
 
-/// So many rows, and so many pairs on each large grid.
-const ROWS: u64 = 20;
+/// So many lines, and so many pairs on each large grid.
+const LINES: u64 = 20;
 const PAIRS: usize = 6;
 
 /// Grids on which a pair can differ at any places and no others.
@@ -66,7 +66,7 @@ fn sizes(m: u64, widths: &[u64]) -> Sizes {
 }
 
 /// A datapath to which a difference is added. Often it does not depend on the last input: then the
-/// outputs agree at the first place of a row, and stay as they are up to the difference.
+/// outputs agree at the first place of a line, and stay as they are up to the difference.
 fn base(random: &mut Random, sizes: &Sizes) -> Datapath {
     let unused = random.index(2);
     let used: Vec<usize> = (0..sizes.d() - unused).collect();
@@ -118,7 +118,7 @@ pub fn far(bench: &mut Bench) -> Outcome {
             let path = base(&mut random, &sizes);
             let vector = countable(&mut random, &sizes);
             let place = place_of(&axes, &vector);
-            let start = place.saturating_sub(ROWS * axes[axes.len() - 1]);
+            let start = place.saturating_sub(LINES * axes[axes.len() - 1]);
             let paths = either(&mut random, &path, barely(&path, &vector));
             let survey = Survey::part(paths, start..place + 1);
             bench.same(&survey.first(start), &Some(place), || {
@@ -136,7 +136,7 @@ fn rest(survey: &Survey) -> u64 {
     if survey.places == (0..survey.count()) {
         u64::MAX
     } else {
-        3 * ROWS * row(survey)
+        3 * LINES * line(survey)
     }
 }
 
@@ -149,14 +149,14 @@ fn around(
     survey: &Survey,
     place: u64,
 ) -> Outcome {
-    let row = row(survey);
+    let line = line(survey);
     let scratch = scratch(larger(&survey.paths) + 2);
-    let block = LANES * row;
-    let in_row = place % row;
-    let mut list = vec![0, 1, 15, 16, in_row, in_row + 1, block, block + in_row];
+    let group = LANES * line;
+    let in_line = place % line;
+    let mut list = vec![0, 1, 15, 16, in_line, in_line + 1, group, group + in_line];
     let most = place - survey.places.start;
     list.extend([most, random.below(most + 1)]);
-    list.extend((0..2).map(|_| block + random.below(row)));
+    list.extend((0..2).map(|_| group + random.below(line)));
     list.sort_unstable();
     list.dedup();
     for before in list.into_iter().filter(|&before| before <= most) {
@@ -191,24 +191,24 @@ fn in_parts(
     survey: &Survey,
     place: u64,
 ) -> Outcome {
-    let row = row(survey);
+    let line = line(survey);
     let scratch = scratch(larger(&survey.paths));
-    let block = LANES * row;
+    let group = LANES * line;
     let least = survey.places.start;
     let early = place
-        .saturating_sub(block + random.below(2 * row))
+        .saturating_sub(group + random.below(2 * line))
         .max(least);
     for size in [LANES, LANES + 1] {
         runs.finish(bench, survey, early, || size, &scratch)?;
     }
     let start = random.between(least, place);
-    for size in [block, block + row, rest(survey)] {
+    for size in [group, group + line, rest(survey)] {
         runs.finish(bench, survey, start, || size, &scratch)?;
     }
     let any = || match random.below(3) {
         0 => random.between(1, 40),
-        1 => random.between(row, block),
-        _ => random.between(block, 2 * block),
+        1 => random.between(line, group),
+        _ => random.between(group, 2 * group),
     };
     runs.finish(bench, survey, early, any, &scratch)
 }
@@ -227,14 +227,14 @@ pub fn several(bench: &mut Bench) -> Outcome {
     }
     runs.judge(
         bench,
-        &[Way::Batches, Way::Blocks],
+        &[Way::Batches, Way::Groups],
         &[EQUIVALENT, DIFFERS],
         100,
     )
 }
 
-/// Two differences in one block: the one in the first of these lanes comes later in its row, but
-/// first in dictionary order. Others may stand before the position and after the block.
+/// Two differences in one group: the one in the first of these lanes comes later in its line, but
+/// first in dictionary order. Others may stand before the position and after the group.
 fn lanes(
     bench: &mut Bench,
     random: &mut Random,
@@ -243,13 +243,13 @@ fn lanes(
     [first, second]: [u64; 2],
 ) -> Outcome {
     let axes = axes(&path.sizes);
-    let (count, row) = (size(&axes), axes[axes.len() - 1]);
-    let block = random.between(1, count / row - LANES);
-    let late = random.between(1, row - 1);
-    let chosen = (block + first) * row + late;
-    let mut places = vec![chosen, (block + second) * row + random.below(late)];
+    let (count, line) = (size(&axes), axes[axes.len() - 1]);
+    let group = random.between(1, count / line - LANES);
+    let late = random.between(1, line - 1);
+    let chosen = (group + first) * line + late;
+    let mut places = vec![chosen, (group + second) * line + random.below(late)];
     if random.chance(70) {
-        let any = random.below((block - 1) * row + 1);
+        let any = random.below((group - 1) * line + 1);
         places.push(random.pick(&[0, any]));
     }
     if random.chance(50) {
@@ -262,13 +262,13 @@ fn lanes(
     let survey = Survey::new(either(random, path, spots(path, &vectors)));
     every(bench, runs, &survey, &places)?;
     let scratch = scratch(larger(&survey.paths) + 1);
-    for back in [1, row, random.between(1, row)] {
-        let position = block * row - back;
+    for back in [1, line, random.between(1, line)] {
+        let position = group * line - back;
         let expected = places.iter().copied().find(|&place| place >= position);
         bench.same(&survey.first(position), &expected, || {
             format!("the pair for places {places:?} of {axes:?}")
         })?;
-        let whole = back + LANES * row;
+        let whole = back + LANES * line;
         let before = chosen - position;
         for budget in [before, before + 1, whole, whole + 1, whole - 1, u64::MAX] {
             runs.run(bench, &survey, position, budget, &scratch)?;

@@ -11,7 +11,7 @@
 //! | `lists` | random lists of calls, held against demand 3 |
 //! | `soak` | random sessions with random files |
 //! | `runs` | pairs whose outputs are worked out once, from any place |
-//! | `stretches` | equivalent pairs, by budgets around batches, rows and blocks of rows |
+//! | `spans` | equivalent pairs, by budgets around batches, lines and groups of lines |
 //! | `differences` | pairs that differ at chosen places |
 //! | `counts` | pairs of chosen counts of steps; scratch slices |
 //! | `reports` | the text of an answer |
@@ -28,7 +28,7 @@ mod replay;
 mod reports;
 mod runs;
 mod soak;
-mod stretches;
+mod spans;
 
 use crate::Group;
 
@@ -54,15 +54,11 @@ pub const GROUPS: [Group; 20] = [
     ),
     ("random lists of calls", Some(lists::SEED), lists::lists),
     ("random sessions", Some(soak::SEED), soak::sessions),
+    ("spans of equivalent pairs", Some(spans::SEED), spans::spans),
     (
-        "stretches of equivalent pairs",
-        Some(stretches::SEED),
-        stretches::stretches,
-    ),
-    (
-        "stretches at the ends of large grids",
-        Some(stretches::ENDS_SEED),
-        stretches::ends,
+        "spans at the ends of large grids",
+        Some(spans::ENDS_SEED),
+        spans::ends,
     ),
     (
         "first differences at every place",
@@ -75,12 +71,16 @@ pub const GROUPS: [Group; 20] = [
         differences::far,
     ),
     (
-        "several differences in a block",
+        "several differences in a group of lines",
         Some(differences::SEVERAL_SEED),
         differences::several,
     ),
     ("counts of steps", Some(counts::COUNTS_SEED), counts::counts),
-    ("steps along a row", Some(counts::ROWS_SEED), counts::rows),
+    (
+        "steps along a line",
+        Some(counts::LINES_SEED),
+        counts::lines,
+    ),
     (
         "longer scratch slices",
         Some(counts::SCRATCH_SEED),

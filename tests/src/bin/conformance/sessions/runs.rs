@@ -1,5 +1,5 @@
 //! Pairs whose outputs are worked out once, continued from any place; and how often each way of
-//! running a stretch has met each kind of answer.
+//! running a span has met each kind of answer.
 
 use crate::bench::{Bench, Outcome};
 use reference::sessions::{
@@ -7,37 +7,37 @@ use reference::sessions::{
 };
 use std::collections::BTreeMap;
 
-/// Vectors that the product may compare at once, and rows of a block.
+/// Vectors that the product may compare at once, and lines of a group.
 pub const LANES: u64 = 16;
 
 /// The kinds of accepted calls.
 pub const ACCEPTED: [u64; 3] = [SPENT, EQUIVALENT, DIFFERS];
 
-/// How the product may run a stretch.
+/// How the product may run a span.
 #[derive(Clone, Copy, Debug, PartialEq, Eq, PartialOrd, Ord)]
 pub enum Way {
     /// Fewer vectors than lanes: one by one.
     Singly,
     /// Consecutive places, a lane for each.
     Batches,
-    /// So many whole rows after the one it begins in that a lane can be had for each.
-    Blocks,
+    /// Whole lines of the grid, a lane for each, as many as there are lanes or more.
+    Groups,
 }
 
-pub const WAYS: [Way; 3] = [Way::Singly, Way::Batches, Way::Blocks];
+pub const WAYS: [Way; 3] = [Way::Singly, Way::Batches, Way::Groups];
 
-/// A row of the grid: the values of the last input.
-pub fn row(survey: &Survey) -> u64 {
+/// A line of the grid: the values of the last input.
+pub fn line(survey: &Survey) -> u64 {
     *survey.axes.last().expect("a datapath has an input")
 }
 
 fn way(survey: &Survey, position: u64, budget: u64) -> Way {
     let run = budget.min(survey.count() - position);
-    let row = row(survey);
+    let line = line(survey);
     if run < LANES {
         Way::Singly
-    } else if position / row + 1 + LANES <= (position + run) / row {
-        Way::Blocks
+    } else if position.div_ceil(line) + LANES <= (position + run) / line {
+        Way::Groups
     } else {
         Way::Batches
     }

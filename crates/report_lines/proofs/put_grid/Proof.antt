@@ -1,4 +1,4 @@
--- `lines::put_grid` meets its contract: the grid's first d axes are the file's, and its size is theirs. Assumes nothing.
+-- `report_lines::put_grid` meets its contract: the grid's first d axes are the file's, and its size is theirs. Assumes nothing.
 use mathlib.Core.Path.{_≡_, sym, ap}
 use native.Mathlib.Omega.{arith}
 use borrow.Author.Needs.{needs}
@@ -8,9 +8,9 @@ use lib.Seq.{length-take-le}
 use Rattle.sizes.specs.declared.Sizes.{Sizes}
 use Rattle.printed.specs.Lines.{gridLine}
 use Rattle.printed.specs.Report.{gridText}
-use Rattle.lines.proofs.GridLine.{grid-read, axes-long}
-use Rattle.lines.proofs.put_grid.Statement.{statement}
-use Rattle.lines.proofs.put_grid.Tie as tie
+use Rattle.report_lines.proofs.GridLine.{grid-read, axes-long}
+use Rattle.report_lines.proofs.put_grid.Statement.{statement}
+use Rattle.report_lines.proofs.put_grid.Tie as tie
 
 -- the entry, from the place where the grid is known
 abbrev start : tie.After-grid-of → tie.Start

@@ -1,4 +1,4 @@
--- `lines::put_difference` meets its contract. The answer's vector has room for d entries. Assumes nothing.
+-- `report_lines::put_difference` meets its contract. The answer's vector has room for d entries. Assumes nothing.
 use mathlib.Core.Path.{sym}
 use native.Mathlib.Omega.{arith}
 use borrow.Author.Needs.{needs}
@@ -6,8 +6,8 @@ use lib.Seq.{length-take-le}
 use Rattle.printed.specs.Lines.{differLine}
 use Rattle.printed.specs.Report.{shownText}
 use Rattle.printed.proofs.Words.{words}
-use Rattle.lines.proofs.put_difference.Statement.{statement}
-use Rattle.lines.proofs.put_difference.Tie as tie
+use Rattle.report_lines.proofs.put_difference.Statement.{statement}
+use Rattle.report_lines.proofs.put_difference.Tie as tie
 
 slice-aggregate-put-halves : tie.Need-slice-aggregate-put-halves
 slice-aggregate-put-halves c = search needs

@@ -1,4 +1,4 @@
-// The lines of a report, written into a text slice from a place on. Each function answers the place after its line.
+// The lines of a report, written into a text slice from an index on. Each function answers the index after its line.
 use fields::read_sizes;
 use grid::grid_of;
 use sessions::Answer;

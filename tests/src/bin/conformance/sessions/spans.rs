@@ -1,8 +1,8 @@
-//! Equivalent pairs from every position of the first rows of a grid, and from positions in the last
-//! rows of large ones, by budgets around the sizes of batches, of rows and of blocks of rows.
+//! Equivalent pairs from every position of the first lines of a grid, and from positions in the last
+//! lines of large ones, by budgets around the sizes of batches, of lines and of groups of lines.
 
 use super::bench::scratch;
-use super::runs::{LANES, Runs, WAYS, row};
+use super::runs::{LANES, Runs, WAYS, line};
 use crate::bench::{Bench, Outcome};
 use reference::grid::{axes, size};
 use reference::mixed;
@@ -14,12 +14,12 @@ use reference::twins::{Kind, twin};
 pub const SEED: u64 = 0x57e7_c4e5_eed0;
 pub const ENDS_SEED: u64 = 0x57e7_c4e5_eed1;
 
-/// Positions in so many rows: past one block and the row before it.
-const ROWS: u64 = 20;
+/// Positions in so many lines: past one group and the line before it.
+const LINES: u64 = 20;
 
 const STEPS: usize = 9;
 
-/// m and word lengths: one row of many lengths, and rows of 2, 4, 6, 8, 10, 16, 18 and 34.
+/// m and word lengths: one line of many lengths, and lines of 2, 4, 6, 8, 10, 16, 18 and 34.
 const GRIDS: [(u64, &[u64]); 22] = [
     (1, &[1]),
     (5, &[8]),
@@ -45,7 +45,7 @@ const GRIDS: [(u64, &[u64]); 22] = [
     (32, &[5, 32]),
 ];
 
-/// Large grids, and so many positions in the last rows of each.
+/// Large grids, and so many positions in the last lines of each.
 const LARGE: [(u64, &[u64]); 6] = [
     (64, &[64; 8]),
     (64, &[64, 64, 64, 64, 64, 64, 64, 1]),
@@ -56,17 +56,17 @@ const LARGE: [(u64, &[u64]); 6] = [
 ];
 const POSITIONS: usize = 40;
 
-fn budgets(row: u64, left: u64) -> Vec<u64> {
-    let block = LANES * row;
-    let mut list = vec![1, 2, 15, 16, 17, 31, 32, 33, row - 1, row, row + 1];
-    list.extend([block - 1, block, block + 1, block + row, block + row + 3]);
+fn budgets(line: u64, left: u64) -> Vec<u64> {
+    let group = LANES * line;
+    let mut list = vec![1, 2, 15, 16, 17, 31, 32, 33, line - 1, line, line + 1];
+    list.extend([group - 1, group, group + 1, group + line, group + line + 3]);
     list.extend([left.saturating_sub(1).max(1), left, u64::MAX]);
     list.sort_unstable();
     list.dedup();
     list
 }
 
-pub fn stretches(bench: &mut Bench) -> Outcome {
+pub fn spans(bench: &mut Bench) -> Outcome {
     let mut random = Random::new(SEED);
     let mut runs = Runs::default();
     for (m, widths) in GRIDS {
@@ -78,7 +78,7 @@ pub fn stretches(bench: &mut Bench) -> Outcome {
             let other = twin(&mut random, &path, kind);
             let survey = Survey::new([path, other]);
             bench.start(survey.files())?;
-            let most = survey.count().min(ROWS * row(&survey));
+            let most = survey.count().min(LINES * line(&survey));
             equivalent(bench, &mut runs, &survey, 0..most)?;
         }
     }
@@ -96,7 +96,7 @@ pub fn ends(bench: &mut Bench) -> Outcome {
         let other = twin(&mut random, &path, Kind::Vanishing);
         let axes = axes(&sizes);
         let count = size(&axes);
-        let start = count - ROWS * axes[axes.len() - 1];
+        let start = count - LINES * axes[axes.len() - 1];
         let survey = Survey::part([path, other], start..count);
         let position = |_| random.between(start, count - 1);
         let positions: Vec<u64> = (0..POSITIONS).map(position).collect();
@@ -111,11 +111,11 @@ fn equivalent(
     survey: &Survey,
     positions: impl IntoIterator<Item = u64>,
 ) -> Outcome {
-    let (row, count) = (row(survey), survey.count());
+    let (line, count) = (line(survey), survey.count());
     let scratch = scratch(larger(&survey.paths) + 3);
     for position in positions {
         let left = count - position;
-        for budget in budgets(row, left) {
+        for budget in budgets(line, left) {
             let done = runs.run(bench, survey, position, budget, &scratch)?;
             let (kind, run) = if budget >= left {
                 (EQUIVALENT, left)
@@ -123,7 +123,7 @@ fn equivalent(
                 (SPENT, budget)
             };
             bench.same(&done.answer[KIND..=RUN], &[kind, run], || {
-                format!("from {position} by {budget}, rows of {row}")
+                format!("from {position} by {budget}, lines of {line}")
             })?;
         }
     }

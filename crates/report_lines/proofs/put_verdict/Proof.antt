@@ -1,12 +1,12 @@
--- `lines::put_verdict` meets its contract, by the kind of the answer. Assumes nothing.
+-- `report_lines::put_verdict` meets its contract, by the kind of the answer. Assumes nothing.
 use mathlib.Core.Path.{ap}
 use borrow.Author.Needs.{needs}
 use Rattle.sessions.specs.declared.Kind.{Kind}
 use Rattle.printed.specs.Report.{shownText}
 use Rattle.printed.specs.Lines.{equivalentLine}
 use Rattle.text.proofs.Over.{put-start}
-use Rattle.lines.proofs.put_verdict.Statement.{statement}
-use Rattle.lines.proofs.put_verdict.Tie as tie
+use Rattle.report_lines.proofs.put_verdict.Statement.{statement}
+use Rattle.report_lines.proofs.put_verdict.Tie as tie
 
 enum-told : tie.Need-enum-told
 enum-told c = search needs

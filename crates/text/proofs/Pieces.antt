@@ -1,4 +1,4 @@
--- Texts cut apart: a line ends its piece at its line feed, and a word ends at the space after it, since no digit is either. By recursion on
+-- Texts taken apart: a line ends its piece at its line feed, and a word ends at the space after it, since no digit is either. By recursion on
 -- the bytes. Assumes nothing.
 use mathlib.Core.Path.{_≡_, refl, sym, _∙_, ap}
 use mathlib.Core.Bool.{Bool, true, not, _&&_, and-eq-true-iff}
@@ -9,7 +9,7 @@ use lib.Dec.{eqb}
 use lib.ListN.{length, getD}
 use borrow.Author.Tests.{ne-eqb, eq-eqb, not-true}
 use Rattle.text.specs.Decimal.{decimal}
-use Rattle.text.specs.Text.{lineFeed, space, line, spaced, cut}
+use Rattle.text.specs.Text.{lineFeed, space, line, spaced, pieces}
 use Rattle.text.proofs.Decimal.{decimals}
 
 -- none of the bytes is c
@@ -39,41 +39,41 @@ free-spaced [] = refl
 free-spaced (n ∷ ns) = free-append lineFeed (decimal n) (spaced ns) (free-decimal lineFeed n (omega arith)) (free-spaced ns)
 
 module _ (c : ℕ) where
-  cut-free : (x : List ℕ) → free c x ≡ true → cut c x ≡ x ∷ []
-  unfolding cut
-  cut-free [] h = refl
-  cut-free (b ∷ x) h =
+  pieces-free : (x : List ℕ) → free c x ≡ true → pieces c x ≡ x ∷ []
+  unfolding pieces
+  pieces-free [] h = refl
+  pieces-free (b ∷ x) h =
       let p = and-eq-true-iff (not (eqb b c)) (free c x) .0 h in
-      rw (not-true (eqb b c) (p .0), cut-free x (p .1))
+      rw (not-true (eqb b c) (p .0), pieces-free x (p .1))
 
-  pub cut-at : (x y : List ℕ) → free c x ≡ true → cut c (x ++ c ∷ y) ≡ x ∷ cut c y
-  unfolding cut
-  cut-at [] y h = rw (eq-eqb c c refl)
-  cut-at (b ∷ x) y h =
+  pub pieces-at : (x y : List ℕ) → free c x ≡ true → pieces c (x ++ c ∷ y) ≡ x ∷ pieces c y
+  unfolding pieces
+  pieces-at [] y h = rw (eq-eqb c c refl)
+  pieces-at (b ∷ x) y h =
       let p = and-eq-true-iff (not (eqb b c)) (free c x) .0 h in
-      rw (not-true (eqb b c) (p .0), cut-at x y (p .1))
+      rw (not-true (eqb b c) (p .0), pieces-at x y (p .1))
 
 -- a line, and the text after it
-pub cut-line : (x y : List ℕ) → free lineFeed x ≡ true → cut lineFeed (line x ++ y) ≡ x ∷ cut lineFeed y
-cut-line x y h = rw (append-assoc x (lineFeed ∷ []) y) (cut-at lineFeed x y h)
+pub pieces-line : (x y : List ℕ) → free lineFeed x ≡ true → pieces lineFeed (line x ++ y) ≡ x ∷ pieces lineFeed y
+pieces-line x y h = rw (append-assoc x (lineFeed ∷ []) y) (pieces-at lineFeed x y h)
 
 -- a word and numbers
-pub cut-words : (w ns : List ℕ) → free space w ≡ true → cut space (w ++ spaced ns) ≡ w ∷ map decimal ns
+pub pieces-words : (w ns : List ℕ) → free space w ≡ true → pieces space (w ++ spaced ns) ≡ w ∷ map decimal ns
 unfolding spaced
-cut-words w [] h = rw append-nil (cut-free space w h)
-cut-words w (n ∷ ns) h =
-    cut-at space w (decimal n ++ spaced ns) h
-    ∙ ap (λ (ps : List (List ℕ)). w ∷ ps) (cut-words (decimal n) ns (free-decimal space n (omega arith)))
+pieces-words w [] h = rw append-nil (pieces-free space w h)
+pieces-words w (n ∷ ns) h =
+    pieces-at space w (decimal n ++ spaced ns) h
+    ∙ ap (λ (ps : List (List ℕ)). w ∷ ps) (pieces-words (decimal n) ns (free-decimal space n (omega arith)))
 
 -- and more words after them
-pub cut-words-rest :
-    (w ns y : List ℕ) → free space w ≡ true → cut space (w ++ spaced ns ++ (space ∷ y)) ≡ (w ∷ map decimal ns) ++ cut space y
+pub pieces-words-rest :
+    (w ns y : List ℕ) → free space w ≡ true → pieces space (w ++ spaced ns ++ (space ∷ y)) ≡ (w ∷ map decimal ns) ++ pieces space y
 unfolding spaced
-cut-words-rest w [] y h = rw append-nil (cut-at space w y h)
-cut-words-rest w (n ∷ ns) y h =
-    ap (cut space)
+pieces-words-rest w [] y h = rw append-nil (pieces-at space w y h)
+pieces-words-rest w (n ∷ ns) y h =
+    ap (pieces space)
     (append-assoc w (spaced (n ∷ ns)) (space ∷ y)
     ∙ ap (λ (z : List ℕ). w ++ z) (append-assoc (space ∷ decimal n) (spaced ns) (space ∷ y)))
-    ∙ cut-at space w (decimal n ++ (spaced ns ++ (space ∷ y))) h
-    ∙ ap (λ (z : List ℕ). w ∷ cut space z) (sym (append-assoc (decimal n) (spaced ns) (space ∷ y)))
-    ∙ ap (λ (ps : List (List ℕ)). w ∷ ps) (cut-words-rest (decimal n) ns y (free-decimal space n (omega arith)))
+    ∙ pieces-at space w (decimal n ++ (spaced ns ++ (space ∷ y))) h
+    ∙ ap (λ (z : List ℕ). w ∷ pieces space z) (sym (append-assoc (decimal n) (spaced ns) (space ∷ y)))
+    ∙ ap (λ (ps : List (List ℕ)). w ∷ ps) (pieces-words-rest (decimal n) ns y (free-decimal space n (omega arith)))

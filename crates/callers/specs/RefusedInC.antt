@@ -1,6 +1,6 @@
 -- Demand 1 for a caller in C, of any words that a C function's contract holds of: a call that is not accepted touches nothing but its answer
--- slice, and where it is a refused opening the session words, which become 0. It is proved in proofs/, as refusedInC. The parameters are those of the contracts: what was lent, the result r, and the slices
--- at exit (with a ′).
+-- slice, and where it is a refused opening the session words, which become 0. It is proved in proofs/, as refusedInC. The parameters are
+-- those of the contracts: what was lent, the result r, and the slices at exit (with a ′).
 --   Refused r o         the call returned 1, and the number word of its answer o is not 0
 --   NotAccepted r o     it returned 0, or it was refused
 -- Of each function, in a record of its own:

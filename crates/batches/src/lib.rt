@@ -62,7 +62,9 @@ fn first_in_batch(
     requires { ⌜ Prepared shape (now file1) (now file2) plan (now rows) (now other) ⌝ }
     requires { ⌜ Live (shape .w) (take (plan .d) (plan .axes)) p live (now inputs) ⌝ }
     requires { ⌜ LanesOnGrid (shape .w) (now file1) (now inputs) ⌝ }
-    ensures { λ r. ⌜ BatchRun (shape .w) (now (file1 .entry)) (now (file2 .entry)) p live (now (inputs .exit)) r ⌝ }
+    ensures { λ r. ⌜
+        BatchRun (shape .w) (now (file1 .entry)) (now (file2 .entry)) p live (now (inputs .exit)) r
+        ⌝ }
 {
     let w = shape.w;
     let m = plan.m;

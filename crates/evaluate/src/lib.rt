@@ -74,7 +74,9 @@ fn step_word(file: &[u8], n: usize, vector: &[u64], scratch: &[u64], k: usize) -
 // The values modulo 2^64 of all steps of an accepted file go into the first n scratch entries.
 fn run(file: &[u8], n: usize, vector: &[u64], scratch: &mut [u64])
     requires { ⌜ Ready (now file) n (now vector) (now scratch) ⌝ }
-    ensures { λ _. ⌜ now (scratch .exit) ≡ ran (now (file .entry)) n (now (vector .entry)) (now (scratch .entry)) ⌝ }
+    ensures { λ _. ⌜
+        now (scratch .exit) ≡ ran (now (file .entry)) n (now (vector .entry)) (now (scratch .entry))
+        ⌝ }
 {
     let mut k = 0;
     while k < n {

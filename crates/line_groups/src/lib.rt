@@ -32,7 +32,9 @@ pub fn agreed_lines(
 ) -> u64
     requires { ⌜ Prepared shape (now file1) (now file2) plan (now rows) (now other) ⌝ }
     requires { ⌜ Lists plan (now list1) (now list2) (now flags) ⌝ }
-    requires { ⌜ (span .from ≤ span .end) × (span .end * lastAxis plan ≤ size (take (plan .d) (plan .axes))) ⌝ }
+    requires { ⌜
+        (span .from ≤ span .end) × (span .end * lastAxis plan ≤ size (take (plan .d) (plan .axes)))
+        ⌝ }
     ensures { λ r. ⌜
         Agreed (now (file1 .entry)) (now (file2 .entry)) plan span (now (flags .entry)) r (now (flags .exit))
         ⌝ }

@@ -23,7 +23,9 @@ pub fn multiply_rows(rows: &mut [u64], k: usize, a: usize, b: usize, w: usize)
 // at a time. Modulo 2^32 it is the product of the rows.
 pub fn multiply_low_rows(rows: &mut [u64], k: usize, a: usize, b: usize, w: usize)
     requires { ⌜ Operands w (now rows) k a b ⌝ }
-    ensures { λ _. ⌜ Written w (now (rows .entry)) (now (rows .exit)) k (rowLowProducts w (now (rows .entry)) a b) ⌝ }
+    ensures { λ _. ⌜
+        Written w (now (rows .entry)) (now (rows .exit)) k (rowLowProducts w (now (rows .entry)) a b)
+        ⌝ }
 {
     let x = row(rows, a, w);
     let y = row(rows, b, w);

@@ -20,7 +20,9 @@ pub fn add_rows(rows: &mut [u64], k: usize, a: usize, b: usize, w: usize)
 // Row k becomes the difference of the earlier rows a and b modulo 2^64.
 pub fn subtract_rows(rows: &mut [u64], k: usize, a: usize, b: usize, w: usize)
     requires { ⌜ Operands w (now rows) k a b ⌝ }
-    ensures { λ _. ⌜ Written w (now (rows .entry)) (now (rows .exit)) k (rowDifferences w (now (rows .entry)) a b) ⌝ }
+    ensures { λ _. ⌜
+        Written w (now (rows .entry)) (now (rows .exit)) k (rowDifferences w (now (rows .entry)) a b)
+        ⌝ }
 {
     let x = row(rows, a, w);
     let y = row(rows, b, w);

@@ -35,7 +35,6 @@
  *    7  an operation byte is not 1 to 5
  *    8  an argument breaks its rule
  *    9  the files differ in m, d or a word length
- *   10  G is 2^64 or more
  *   11  the budget is 0
  *   12  the scratch slice has fewer entries than the file has steps, or the longer of two files
  *   13  a slice for a table or for outputs has fewer than G entries, or one of the first G that are
@@ -46,7 +45,7 @@
  *  103  the mark is not open
  *
  * Where several hold, the first in this order is given: 11; file 1 by 1 to 6, then step by step 7
- * before 8; file 2 likewise; 9; 10; 12; 13; 14; 101; 102; 103. A call skips what it has no part in.
+ * before 8; file 2 likewise; 9; 12; 13; 14; 101; 102; 103. A call skips what it has no part in.
  * In 1 to 8 the file is 1 or 2, a lone file being 1, and 0 where m or sizes are given as numbers.
  * In 7 and 8 the step is the offending one, counted from 0. Otherwise file and step are 0.
  */
@@ -56,8 +55,9 @@
 #include <stddef.h>
 #include <stdint.h>
 
-/* The version of this interface: it grows with every change of a function or a layout. */
-#define CORKBINGO_VERSION 2
+/* The version of this interface: it grows with every change of a function, of a layout or of the
+ * refusal numbers. */
+#define CORKBINGO_VERSION 3
 
 /* The stack, in bytes, with which a thread can make every call. */
 #define CORKBINGO_STACK_BYTES 106496
@@ -153,7 +153,7 @@ uint32_t corkbingo_table(const uint8_t *file, size_t file_len,
                          uint64_t *out, size_t out_len);
 
 /* Makes the difference table of outputs at all grid vectors in dictionary order. Answer, 3 words:
- * the refusal (by 2, 3, 5, 10 or 13). Reads the first G outputs and writes the first G entries of
+ * the refusal (by 2, 3, 5 or 13). Reads the first G outputs and writes the first G entries of
  * the table slice. */
 uint32_t corkbingo_difference(const uint64_t *sizes, size_t sizes_len,
                               const uint64_t *outputs, size_t outputs_len,
@@ -161,8 +161,8 @@ uint32_t corkbingo_difference(const uint64_t *sizes, size_t sizes_len,
                               uint64_t *out, size_t out_len);
 
 /* Sums a difference table back: the output at x is the sum over all cells k of the cell times the
- * binomials (xi choose ki), modulo 2^m. Answer, 3 words: the refusal (by 2, 3, 5, 10 or 13). Reads
- * the first G cells and writes the first G entries of the output slice. */
+ * binomials (xi choose ki), modulo 2^m. Answer, 3 words: the refusal (by 2, 3, 5 or 13). Reads the
+ * first G cells and writes the first G entries of the output slice. */
 uint32_t corkbingo_sum(const uint64_t *sizes, size_t sizes_len,
                        const uint64_t *table, size_t table_len,
                        uint64_t *outputs, size_t outputs_len,

@@ -96,8 +96,7 @@ pub struct Continued {
     pub scratch: Vec<u64>,
 }
 
-/// Both datapaths, or the first of file 1's conditions, file 2's conditions and 9 that holds. (10
-/// cannot occur: no grid has more than 66^8 vectors.)
+/// Both datapaths, or the first of file 1's conditions, file 2's conditions and 9 that holds.
 fn both(files: [&[u8]; 2]) -> Result<[Datapath; 2], Refusal> {
     let paths = [read(files[0], 1)?, read(files[1], 2)?];
     if paths[0].sizes != paths[1].sizes {

@@ -69,7 +69,6 @@ fn exact_table(path: &Datapath, axes: &[u64]) -> Option<Vec<u64>> {
 }
 
 /// The conditions 1 to 8, then 12, then 13, which here tests the length of the table slice alone.
-/// (10 cannot occur: no grid has more than 66^8 vectors.)
 pub fn table(file: &[u8], scratch: &[u64], table: &[u64]) -> Made {
     let mut scratch = scratch.to_vec();
     let mut cells = table.to_vec();

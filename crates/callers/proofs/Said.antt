@@ -13,7 +13,7 @@ use Rattle.engine.specs.Engine.{largerCount}
 use Rattle.evaluate.specs.Evaluate.{shortScratch, badVector, refusalAt, evaluatedAt}
 use Rattle.file.specs.Check.{fileNumber, refusalOf}
 use Rattle.fields.specs.File.{sizesOf, stepCount}
-use Rattle.grid.specs.Grid.{gridSize, gridOf, tooLarge}
+use Rattle.grid.specs.Grid.{gridSize, gridOf}
 use Rattle.grid_calls.specs.GridCalls.{boundWords, gridWords, noGrid, gridAsWords}
 use Rattle.grid_calls.proofs.Answered.{grid-refused, grid-accepted}
 use Rattle.layouts.specs.AnswerWords.{refusalWords, kindWord, answerWords}
@@ -67,9 +67,8 @@ plain-table : (s : List ℕ) (room len : ℕ) → Plain (tableRefusal s room len
 unfolding tableRefusal
 plain-table s room len =
     plain-cond (eqb (fileNumber s) 0)
-    (plain-cond (tooLarge (sizesOf s)) (plain-by 10)
     (plain-cond (shortScratch (stepCount s) room) (plain-by 12)
-    (plain-cond (shortSlice (gridSize (sizesOf s)) len) (plain-by 13) (plain-by 0))))
+    (plain-cond (shortSlice (gridSize (sizesOf s)) len) (plain-by 13) (plain-by 0)))
     (plain-file 1 s)
 
 plain-cells : (z : Sizes) (cells : List ℕ) (len : ℕ) → Plain (cellsRefusal z cells len)
@@ -78,16 +77,14 @@ plain-cells z cells len =
     plain-cond (badOutput z) (plain-by 2)
     (plain-cond (badInputs z) (plain-by 3)
     (plain-cond (badWidths z) (plain-by 5)
-    (plain-cond (tooLarge z) (plain-by 10)
-    (plain-cond (badCells z cells len) (plain-by 13) (plain-by 0)))))
+    (plain-cond (badCells z cells len) (plain-by 13) (plain-by 0))))
 
 plain-pair : (s₁ s₂ : List ℕ) → Plain (pairRefusal s₁ s₂)
 unfolding pairRefusal
 plain-pair s₁ s₂ =
     plain-cond (not (eqb (fileNumber s₁) 0)) (plain-file 1 s₁)
     (plain-cond (not (eqb (fileNumber s₂) 0)) (plain-file 2 s₂)
-    (plain-cond (not (sameSizes (sizesOf s₁) (sizesOf s₂))) (plain-by 9)
-    (plain-cond (tooLarge (sizesOf s₁)) (plain-by 10) (plain-by 0))))
+    (plain-cond (not (sameSizes (sizesOf s₁) (sizesOf s₂))) (plain-by 9) (plain-by 0)))
 
 plain-state : (z : Sizes) (G : ℕ) (σ : Session) → Plain (stateRefusal z G σ)
 unfolding stateRefusal

@@ -1,5 +1,5 @@
 -- The cases of what differencing and summing refuse: each refusal under the tests that led to it, and what an answer of number 0 tells. By the
--- tests of the definitions; 10 never occurs.
+-- tests of the definitions.
 use mathlib.Core.Path.{_≡_, refl, _∙_, ap}
 use mathlib.Core.Bool.{Bool, true, false, not, cond, _||_, true≢false}
 use mathlib.Core.List.{List}
@@ -7,13 +7,11 @@ use Prim.Native.Nat.{ℕ, suc, _<_, _≤_}
 use native.Mathlib.Omega.{arith}
 use lib.ListN.{length}
 use borrow.Author.Tests.{lt-ltb, le-ltb, ltb-true, ltb-false, not-false}
-use Rattle.grid.specs.Grid.{gridSize, tooLarge}
-use Rattle.grid.proofs.Axes.{never-large}
+use Rattle.grid.specs.Grid.{gridSize}
 use Rattle.ranges.proofs.Search.{every-at, every-of}
 use Rattle.sizes.specs.Sizes.{badOutput, badInputs, badWidths, refusedBy, accepted}
 use Rattle.sizes.specs.declared.Refusal.{Refusal}
 use Rattle.sizes.specs.declared.Sizes.{Sizes}
-use Rattle.sizes.proofs.Ranges.{sound}
 use Rattle.cells.specs.Taken.{Fitting}
 use Rattle.cells.specs.Cells.{smallCell, largeCell, badCells, cellsRefusal}
 
@@ -71,17 +69,14 @@ module _ (z : Sizes) (cells : List ℕ) (len : ℕ) where
       unfolding cellsRefusal
       at-5 e = rw (o, i, e)
 
-      never-10 : tooLarge z ≡ false
-      never-10 = let s = sound z o i in never-large z (s .0 .0) (s .0 .1) (s .1)
-
       module _ (w : badWidths z ≡ false) where
         pub at-13 : badCells z cells len ≡ true → cellsRefusal z cells len ≡ refusedBy 13
         unfolding cellsRefusal
-        at-13 e = rw (o, i, w, never-10, e)
+        at-13 e = rw (o, i, w, e)
 
         pub at-0 : badCells z cells len ≡ false → cellsRefusal z cells len ≡ accepted
         unfolding cellsRefusal
-        at-0 e = rw (o, i, w, never-10, e)
+        at-0 e = rw (o, i, w, e)
 
   -- what holds of an accepted call
   pub record Passed : Type 0 where
@@ -96,6 +91,5 @@ module _ (z : Sizes) (cells : List ℕ) (len : ℕ) where
       let p2 = passed-test (badOutput z) 1 _ e in
       let p3 = passed-test (badInputs z) 2 _ (p2 .1) in
       let p5 = passed-test (badWidths z) 4 _ (p3 .1) in
-      let p10 = passed-test (tooLarge z) 9 _ (p5 .1) in
-      let p13 = passed-test (badCells z cells len) 12 _ (p10 .1) in
+      let p13 = passed-test (badCells z cells len) 12 _ (p5 .1) in
       record { output = p2 .0; inputs = p3 .0; widths = p5 .0; fits = fitting (p13 .0) }

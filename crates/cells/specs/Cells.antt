@@ -3,13 +3,13 @@
 --   smallCell m cells p        cell p is below 2^m
 --   largeCell m g cells        13, second part: one of the first g cells given is 2^m or more
 --   badCells z cells len       13 of a call that reads the cells and writes len entries
---   cellsRefusal z cells len   what differencing or summing answers, with the cells to read and len entries to write: 2, 3, 5, 10, 13
+--   cellsRefusal z cells len   what differencing or summing answers, with the cells to read and len entries to write: 2, 3, 5, 13
 use mathlib.Core.Bool.{Bool, not, cond, _||_}
 use mathlib.Core.List.{List}
 use Prim.Native.Nat.{ℕ, _^_}
 use lib.Dec.{ltb}
 use lib.ListN.{length, getD}
-use Rattle.grid.specs.Grid.{gridSize, tooLarge}
+use Rattle.grid.specs.Grid.{gridSize}
 use Rattle.ranges.specs.Search.{every}
 use Rattle.sizes.specs.Sizes.{badOutput, badInputs, badWidths, refusedBy, accepted}
 use Rattle.sizes.specs.declared.Refusal.{Refusal}
@@ -32,5 +32,4 @@ cellsRefusal z cells len =
     cond (badOutput z) (refusedBy 2)
     (cond (badInputs z) (refusedBy 3)
     (cond (badWidths z) (refusedBy 5)
-    (cond (tooLarge z) (refusedBy 10)
-    (cond (badCells z cells len) (refusedBy 13) accepted))))
+    (cond (badCells z cells len) (refusedBy 13) accepted)))

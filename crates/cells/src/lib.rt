@@ -46,7 +46,7 @@ fn bad_cells(z: Sizes, cells: &[u64], len: usize) -> bool
     large_cell(cells, count, z.m as u64)
 }
 
-// What differencing or summing answers: 2, 3, 5 or 13, or acceptance. Number 10 never occurs.
+// What differencing or summing answers: 2, 3, 5 or 13, or acceptance.
 pub fn cells_refusal(z: Sizes, cells: &[u64], len: usize) -> Refusal
     ensures { λ r. ⌜ r ≡ cellsRefusal z (now (cells .entry)) len ⌝ }
 {

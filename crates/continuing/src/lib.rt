@@ -101,7 +101,7 @@ fn refused_answer(refusal: Refusal) -> Answer
 // Continues a session on two files: runs up to `budget` vectors from its position on. Differs: the first vector among
 // these at which the outputs differ is shown with both outputs, and the session is closed. Equivalent: the end of the
 // grid is reached and none differs, and the session is closed. Spent: none of these differs and more remain. Refused
-// under document 01's conditions in the order 11, file 1, file 2, 9, 10, 12, 101, 102, 103, with the session as it
+// under document 01's conditions in the order 11, file 1, file 2, 9, 12, 101, 102, 103, with the session as it
 // was given and no scratch entry touched. After an accepted call the first entries of the scratch slice, as many as
 // the larger N, are zero, and the others untouched.
 pub fn continue_session(

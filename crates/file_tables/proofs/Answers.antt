@@ -1,7 +1,6 @@
 -- The cases of what making a table answers and leaves: each refusal under the tests that led to it, what an answer of number 0 tells, and the
--- written slices of accepted and refused calls. By the tests of the definitions; 10 never occurs.
+-- written slices of accepted and refused calls. By the tests of the definitions.
 use mathlib.Core.Path.{_≡_, sym, _∙_, ap}
-use mathlib.Core.Bool.{false}
 use mathlib.Core.List.{List, _++_}
 use Prim.Native.Nat.{ℕ, _<_, _≤_}
 use native.Mathlib.Decide.{decLt, ℕ-discrete}
@@ -10,10 +9,8 @@ use lib.ListN.{length, drop}
 use borrow.Author.Tests.{lt-ltb, le-ltb, eq-eqb, ne-eqb}
 use Rattle.file.specs.Check.{fileNumber, refusalOf}
 use Rattle.fields.specs.File.{sizesOf, stepCount}
-use Rattle.file.proofs.Accepted as file
 use Rattle.file.proofs.Number.{refusal-number}
-use Rattle.grid.specs.Grid.{gridSize, tooLarge}
-use Rattle.grid.proofs.Axes.{never-large}
+use Rattle.grid.specs.Grid.{gridSize}
 use Rattle.sizes.specs.Sizes.{refusedBy, accepted}
 use Rattle.sizes.specs.declared.Refusal.{Refusal}
 use Rattle.slices.specs.Slices.{cleared}
@@ -25,21 +22,18 @@ module _ (s : List ℕ) (room len : ℕ) where
   table-file n = rw (ne-eqb (fileNumber s) 0 n)
 
   module _ (e : fileNumber s ≡ 0) where
-    never-10-file : tooLarge (sizesOf s) ≡ false
-    never-10-file = let a = file.accepted s e in never-large (sizesOf s) (a .outputLow) (a .outputHigh) (a .inputsHigh)
-
     pub table-12 : room < stepCount s → tableRefusal s room len ≡ refusedBy 12
     unfolding tableRefusal
-    table-12 l = rw (eq-eqb (fileNumber s) 0 e, never-10-file, lt-ltb room (stepCount s) l)
+    table-12 l = rw (eq-eqb (fileNumber s) 0 e, lt-ltb room (stepCount s) l)
 
     module _ (h : stepCount s ≤ room) where
       pub table-13 : len < gridSize (sizesOf s) → tableRefusal s room len ≡ refusedBy 13
       unfolding tableRefusal
-      table-13 l = rw (eq-eqb (fileNumber s) 0 e, never-10-file, le-ltb room (stepCount s) h, lt-ltb len (gridSize (sizesOf s)) l)
+      table-13 l = rw (eq-eqb (fileNumber s) 0 e, le-ltb room (stepCount s) h, lt-ltb len (gridSize (sizesOf s)) l)
 
       pub table-0 : gridSize (sizesOf s) ≤ len → tableRefusal s room len ≡ accepted
       unfolding tableRefusal
-      table-0 l = rw (eq-eqb (fileNumber s) 0 e, never-10-file, le-ltb room (stepCount s) h, le-ltb len (gridSize (sizesOf s)) l)
+      table-0 l = rw (eq-eqb (fileNumber s) 0 e, le-ltb room (stepCount s) h, le-ltb len (gridSize (sizesOf s)) l)
 
   -- what holds of a file and slices of which a table is made
   pub record Made : Type 0 where

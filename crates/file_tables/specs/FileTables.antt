@@ -1,5 +1,5 @@
 -- The difference table of a file (document 01, 'Output, grid and order' and 'Refused because of the input'). G is the size of the grid.
---   tableRefusal s room len   what making a table answers, with room scratch entries and len table entries: the file's refusal, 10, 12, 13
+--   tableRefusal s room len   what making a table answers, with room scratch entries and len table entries: the file's refusal, 12, 13
 --   tableOfFile s             the difference table of the exact values of the file s, over its grid
 --   madeTable s room table    the table slice after the call: its first G entries are the table, and the others are untouched
 --   tableScratch s scratch len   the scratch slice after the call: its first N entries are zero, and the others are untouched
@@ -19,7 +19,7 @@ use Rattle.evaluate.specs.Evaluate.{shortScratch}
 use Rattle.file.specs.Check.{fileNumber, refusalOf}
 use Rattle.fields.specs.File.{sizesOf, stepCount}
 use Rattle.fields.specs.Steps.{stepsOf}
-use Rattle.grid.specs.Grid.{axesOf, gridSize, tooLarge}
+use Rattle.grid.specs.Grid.{axesOf, gridSize}
 use Rattle.sizes.specs.Sizes.{refusedBy, accepted, accepts}
 use Rattle.sizes.specs.declared.Refusal.{Refusal}
 use Rattle.slices.specs.Slices.{cleared}
@@ -28,9 +28,8 @@ use Rattle.datapath.specs.Steps.{exact}
 unfoldable pub tableRefusal : List ℕ → ℕ → ℕ → Refusal
 tableRefusal s room len =
     cond (eqb (fileNumber s) 0)
-    (cond (tooLarge (sizesOf s)) (refusedBy 10)
     (cond (shortScratch (stepCount s) room) (refusedBy 12)
-    (cond (shortSlice (gridSize (sizesOf s)) len) (refusedBy 13) accepted)))
+    (cond (shortSlice (gridSize (sizesOf s)) len) (refusedBy 13) accepted))
     (refusalOf 1 s)
 
 unfoldable pub tableOfFile : List ℕ → List ℕ

@@ -21,7 +21,7 @@ ghost use Rattle.file_tables.specs.FileTables.{tableRefusal, TableMade};
 ghost use Rattle.file_tables.specs.Filling.{Filling, OutputsFilled, TableFilled};
 
 // What making a table answers, with a scratch slice of `room` entries and a table slice of `len`: the file's refusal,
-// 12 or 13, or acceptance. Number 10 never occurs.
+// 12 or 13, or acceptance.
 fn table_refusal(file: &[u8], room: usize, len: usize) -> Refusal
     ensures { λ r. ⌜ r ≡ tableRefusal (now (file .entry)) room len ⌝ }
 {
@@ -92,7 +92,7 @@ fn fill_table(file: &[u8], scratch: &mut [u64], table: &mut [u64])
 
 // The difference table of a file. Of the table slice the first G entries become the table: cell k holds the k-fold
 // forward difference of the exact values at the zero vector, modulo 2^m, in dictionary order. Number 0: accepted, and
-// the first N scratch entries are zero afterwards. Otherwise refused under document 01's conditions 1 to 8, 10, 12
+// the first N scratch entries are zero afterwards. Otherwise refused under document 01's conditions 1 to 8, 12
 // and 13, in its order, with both slices untouched.
 pub fn make_table(file: &[u8], scratch: &mut [u64], table: &mut [u64]) -> Refusal
     ensures { λ r. ⌜

@@ -1,21 +1,17 @@
 -- The axes of a grid: none is above the largest bound, so as many as a file may have inputs give fewer than 2^64 vectors.
 use mathlib.Core.Path.{_≡_}
-use mathlib.Core.Bool.{false}
 use mathlib.Core.List.{List, [], _∷_}
 use Prim.Native.Nat.{ℕ, zero, suc, _^_, _≤_, _<_}
 use native.Mathlib.Nat.{le-trans, le-refl, mul-le-mul, pow-succ', pow-le-pow-right, min-eq-right, min-le-right, le-min, one-le-mul, one-le-pow}
 use native.Mathlib.Omega.{arith}
 use lib.Dec.{lit≤, lit<}
-use lib.ListN.{length, getD, length-take}
+use lib.ListN.{length, getD}
 use lib.Pow.{pow-mono}
-use borrow.Author.Tests.{lt-leb}
 use Rattle.bound.specs.Axes.{axis, axes}
 use Rattle.bound.specs.Bound.{bound, maxBound}
 use Rattle.bound.proofs.Least.{bound-least, bound-most}
 use Rattle.places.specs.Places.{size}
 use Rattle.sizes.specs.Sizes.{maxInputs}
-use Rattle.sizes.specs.declared.Sizes.{Sizes}
-use Rattle.grid.specs.Grid.{widthsOf, axesOf, gridSize, tooLarge}
 
 module _ (m : ℕ) (low : 1 ≤ m) (high : m ≤ 64) where
   pub axis-most : (n : ℕ) → axis m n ≤ maxBound
@@ -51,8 +47,3 @@ module _ (m : ℕ) (low : 1 ≤ m) (high : m ≤ 64) where
 pub size-fits : (m : ℕ) → 1 ≤ m → m ≤ 64 → (ns : List ℕ) → length ns ≤ maxInputs → size (axes m ns) < 2 ^ 64
 size-fits m low high ns h =
     le-trans (omega (arith, le-trans (size-most m low high ns) (pow-le-pow-right (lit< tt) h))) (le-refl (2 ^ 64))
-
--- so number 10 never occurs
-pub never-large : (z : Sizes) → 1 ≤ z .m → z .m ≤ 64 → z .d ≤ maxInputs → tooLarge z ≡ false
-unfolding tooLarge gridSize axesOf
-never-large z low high h = lt-leb (2 ^ 64) _ (size-fits (z .m) low high (widthsOf z) (rw length-take (omega arith)))

@@ -1,14 +1,17 @@
--- The grid of given sizes, as the code has it: its size, its first d axes, and that it has a vector. Assumes nothing.
+-- The grid of given sizes, as the code has it: its size, its first d axes, and that it has a vector and fewer than 2^64. Assumes nothing.
 use mathlib.Core.Path.{_≡_, _∙_, ap}
-use Prim.Native.Nat.{_≤_}
+use Prim.Native.Nat.{_^_, _≤_, _<_}
+use native.Mathlib.Nat.{le-trans, pow-le-pow-right}
 use native.Mathlib.Omega.{arith}
+use lib.Dec.{lit<}
 use lib.ListN.{length, take, length-map, length-take}
 use lib.Seq.{take-at, length-take-le}
+use Rattle.bound.specs.Bound.{maxBound}
 use Rattle.sizes.specs.Sizes.{maxInputs, Sound}
 use Rattle.sizes.specs.declared.Sizes.{Sizes}
-use Rattle.grid.specs.Grid.{axesOf, gridSize, gridOf, widthsOf}
+use Rattle.grid.specs.Grid.{axesOf, gridSize, gridOf, widthsOf, GridFits}
 use Rattle.grid.specs.declared.Grid.{Grid}
-use Rattle.grid.proofs.Axes.{size-least}
+use Rattle.grid.proofs.Axes.{size-least, size-most, size-fits}
 
 module _ (z : Sizes) (g : Grid) (e : g ≡ gridOf z) where
   pub grid-size : g .size ≡ gridSize z
@@ -25,6 +28,24 @@ pub length-axes-most : (z : Sizes) → length (axesOf z) ≤ z .d
 unfolding axesOf
 length-axes-most z = simp (length-map, length-take) (omega arith)
 
-pub grid-least : (z : Sizes) → Sound z → 1 ≤ gridSize z
-unfolding gridSize axesOf
-grid-least z s = size-least (z .m) (s .0 .0) (s .0 .1) (widthsOf z)
+module _ (z : Sizes) (s : Sound z) where
+  pub grid-least : 1 ≤ gridSize z
+  unfolding gridSize axesOf
+  grid-least = size-least (z .m) (s .0 .0) (s .0 .1) (widthsOf z)
+
+  grid-most : gridSize z ≤ maxBound ^ z .d
+  unfolding gridSize axesOf
+  grid-most =
+      le-trans (size-most (z .m) (s .0 .0) (s .0 .1) (widthsOf z))
+      (pow-le-pow-right (lit< tt) (rw length-take (omega arith)))
+
+  pub grid-fits : gridSize z < 2 ^ 64
+  unfolding gridSize axesOf
+  grid-fits = size-fits (z .m) (s .0 .0) (s .0 .1) (widthsOf z) (rw length-take (omega (arith, s .1)))
+
+pub gridFits : GridFits
+gridFits =
+    record {
+      most = λ z r. grid-most z ((r .outputLow, r .outputHigh), r .inputsHigh);
+      fits = λ z r. grid-fits z ((r .outputLow, r .outputHigh), r .inputsHigh);
+    }

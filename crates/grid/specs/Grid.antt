@@ -2,16 +2,17 @@
 --   widthsOf z    the word lengths of the d inputs
 --   axesOf z      u_1 to u_d
 --   gridSize z    G, the product of the axes
---   tooLarge z    10. G is 2^64 or more
 --   gridOf z      the axes, with 0 past the last input, and G
-use mathlib.Core.Bool.{Bool}
+--   GridFits      of sizes that 2, 3 and 5 accept, G has 64 bits. Proved in proofs/Grids:
+--     most        G is at most the largest bound, once for each input
+--     fits        so it is below 2^64, with as many inputs as a file may have
 use mathlib.Core.List.{List, _++_}
-use Prim.Native.Nat.{ℕ, _-_, _^_}
-use lib.Dec.{leb}
+use Prim.Native.Nat.{ℕ, _-_, _^_, _≤_, _<_}
 use lib.ListN.{take, replicate}
 use Rattle.bound.specs.Axes.{axes}
+use Rattle.bound.specs.Bound.{maxBound}
 use Rattle.places.specs.Places.{size}
-use Rattle.sizes.specs.Sizes.{maxInputs}
+use Rattle.sizes.specs.Sizes.{maxInputs, Ruled}
 use Rattle.sizes.specs.declared.Sizes.{Sizes}
 use Rattle.grid.specs.declared.Grid.{Grid}
 
@@ -24,8 +25,9 @@ axesOf z = axes (z .m) (widthsOf z)
 unfoldable pub gridSize : Sizes → ℕ
 gridSize z = size (axesOf z)
 
-unfoldable pub tooLarge : Sizes → Bool
-tooLarge z = leb (2 ^ 64) (gridSize z)
-
 unfoldable pub gridOf : Sizes → Grid
 gridOf z = record { axes = axesOf z ++ replicate (maxInputs - z .d) 0; size = gridSize z }
+
+pub record GridFits : Type 0 where
+  pub most : (z : Sizes) → Ruled z → gridSize z ≤ maxBound ^ z .d
+  pub fits : (z : Sizes) → Ruled z → gridSize z < 2 ^ 64

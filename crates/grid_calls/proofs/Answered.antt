@@ -1,4 +1,4 @@
--- The words of the answers about bounds and grids, by their cases. Number 10 never occurs. Assumes nothing.
+-- The words of the answers about bounds and grids, by their cases. Assumes nothing.
 use mathlib.Core.Path.{_≡_}
 use mathlib.Core.Bool.{true, false}
 use mathlib.Core.List.{List, [], _∷_, _++_}
@@ -7,9 +7,7 @@ use borrow.Author.Tests.{eq-eqb, ne-eqb}
 use Rattle.bound.specs.Bound.{bound}
 use Rattle.file.specs.Check.{fileNumber, refusalOf}
 use Rattle.fields.specs.File.{sizesOf}
-use Rattle.file.proofs.Accepted.{accepted}
 use Rattle.grid.specs.Grid.{gridOf}
-use Rattle.grid.proofs.Axes.{never-large}
 use Rattle.layouts.specs.AnswerWords.{refusalWords}
 use Rattle.sizes.specs.Sizes.{within}
 use Rattle.grid_calls.specs.GridCalls.{boundWords, gridAsWords, noGrid, gridWords}
@@ -26,9 +24,7 @@ module _ (s : List ℕ) where
 
   pub grid-accepted : fileNumber s ≡ 0 → gridWords s ≡ 0 ∷ 0 ∷ 0 ∷ gridAsWords (gridOf (sizesOf s))
   unfolding gridWords
-  grid-accepted e =
-      let a = accepted s e in
-      rw (eq-eqb (fileNumber s) 0 e, never-large (sizesOf s) (a .outputLow) (a .outputHigh) (a .inputsHigh))
+  grid-accepted e = rw (eq-eqb (fileNumber s) 0 e)
 
 pub bound-refused : (m : ℕ) → within 1 64 m ≡ false → boundWords m ≡ 2 ∷ 0 ∷ 0 ∷ 0 ∷ []
 unfolding boundWords

@@ -3,7 +3,7 @@
 --   BoundCall     bound_call
 --   GridCall      grid_call
 --   boundWords m  the refusal (2: m is not 1 to 64), and L(m), 0 in a refusal
---   gridWords s   the refusal (of the file, or 10), the axes (0 past d), and G; all 0 in a refusal
+--   gridWords s   the file's refusal, the axes (0 past d), and G; all 0 in a refusal
 --   boundLength, gridLength   how many words these have
 -- The fields of the records:
 --   result    1 where the answer slice has the answer's length, else 0
@@ -18,7 +18,7 @@ use lib.ListN.{replicate}
 use Rattle.bound.specs.Bound.{bound}
 use Rattle.file.specs.Check.{fileNumber, refusalOf}
 use Rattle.fields.specs.File.{sizesOf}
-use Rattle.grid.specs.Grid.{gridOf, tooLarge}
+use Rattle.grid.specs.Grid.{gridOf}
 use Rattle.grid.specs.declared.Grid.{Grid}
 use Rattle.layouts.specs.AnswerWords.{refusalWords}
 use Rattle.layouts.specs.Layout.{has, returned, leaves}
@@ -49,8 +49,7 @@ noGrid = replicate (maxInputs + 1) 0
 unfoldable pub gridWords : List ℕ → List ℕ
 gridWords s =
     cond (eqb (fileNumber s) 0)
-    (cond (tooLarge (sizesOf s)) (refusalWords (refusedBy 10) ++ noGrid)
-    (refusalWords accepted ++ gridAsWords (gridOf (sizesOf s))))
+    (refusalWords accepted ++ gridAsWords (gridOf (sizesOf s)))
     (refusalWords (refusalOf 1 s) ++ noGrid)
 
 pub record GridCall (f o : List ℕ) (r : ℕ) (o′ : List ℕ) : Type 0 where

@@ -33,7 +33,7 @@ pub fn same_sizes(z: Sizes, w: Sizes) -> bool
     true
 }
 
-// What opening and continuing judge of two files: file 1, file 2, and 9. Number 10 never occurs.
+// What opening and continuing judge of two files: file 1, file 2, and 9.
 pub fn pair_refusal(file1: &[u8], file2: &[u8]) -> Refusal
     ensures { λ r. ⌜ r ≡ pairRefusal (now (file1 .entry)) (now (file2 .entry)) ⌝ }
 {
@@ -68,7 +68,7 @@ fn no_session() -> Session
     }
 }
 
-// Opens a session on two files: their sizes, position 0, open. Refused under document 01's conditions 1 to 10, file 1
+// Opens a session on two files: their sizes, position 0, open. Refused under document 01's conditions 1 to 9, file 1
 // before file 2, with a session of zeros, marked open.
 pub fn open_session(file1: &[u8], file2: &[u8]) -> Opened
     ensures { λ r. ⌜ r ≡ opened (now (file1 .entry)) (now (file2 .entry)) ⌝ }

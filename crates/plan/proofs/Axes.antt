@@ -4,15 +4,14 @@ use mathlib.Core.List.{List}
 use mathlib.Core.Path.{_≡_}
 use Prim.Native.Nat.{ℕ, _^_, _≤_, _<_}
 use native.Mathlib.Omega.{arith}
-use borrow.Author.Tests.{leb-false}
 use lib.ListN.{length, getD, length-map, length-take, length-drop}
 use Rattle.bound.specs.Bound.{maxBound}
 use Rattle.fields.specs.File.{sizesOf}
 use Rattle.file.specs.Accepted.{Accepted}
-use Rattle.grid.specs.Grid.{widthsOf, axesOf, gridSize, tooLarge}
-use Rattle.grid.proofs.Axes.{axes-most, never-large}
-use Rattle.grid.proofs.Grids.{grid-least}
-use Rattle.sizes.specs.Sizes.{maxInputs}
+use Rattle.grid.specs.Grid.{widthsOf, axesOf, gridSize}
+use Rattle.grid.proofs.Axes.{axes-most}
+use Rattle.grid.proofs.Grids.{grid-least, grid-fits}
+use Rattle.sizes.specs.Sizes.{maxInputs, Sound}
 
 module _ (s : List ℕ) (a : Accepted s) where
   pub length-widths : length (sizesOf s .widths) ≡ maxInputs
@@ -27,9 +26,11 @@ module _ (s : List ℕ) (a : Accepted s) where
   unfolding axesOf
   file-axis-most i = axes-most (sizesOf s .m) (a .outputLow) (a .outputHigh) (widthsOf (sizesOf s)) i
 
-  pub file-grid-least : 1 ≤ gridSize (sizesOf s)
-  file-grid-least = grid-least (sizesOf s) ((a .outputLow, a .outputHigh), a .inputsHigh)
+  file-sound : Sound (sizesOf s)
+  file-sound = ((a .outputLow, a .outputHigh), a .inputsHigh)
 
-  pub grid-fits : gridSize (sizesOf s) < 2 ^ 64
-  unfolding tooLarge
-  grid-fits = leb-false (2 ^ 64) _ (never-large (sizesOf s) (a .outputLow) (a .outputHigh) (a .inputsHigh))
+  pub file-grid-least : 1 ≤ gridSize (sizesOf s)
+  file-grid-least = grid-least (sizesOf s) file-sound
+
+  pub file-grid-fits : gridSize (sizesOf s) < 2 ^ 64
+  file-grid-fits = grid-fits (sizesOf s) file-sound

@@ -11,7 +11,7 @@ use Rattle.grid.proofs.Grids.{grid-axes}
 use Rattle.places.specs.Places.{size}
 use Rattle.plan.specs.Plan.{planOf, Planned}
 use Rattle.plan.specs.declared.Plan.{Plan}
-use Rattle.plan.proofs.Axes.{length-widths, length-axes, grid-fits}
+use Rattle.plan.proofs.Axes.{length-widths, length-axes, file-grid-fits}
 
 module _ {s₁ s₂ : List ℕ} {p : Plan} (k : Planned s₁ s₂ p) where
   pub count₁ : p .n1 ≡ stepCount s₁
@@ -45,4 +45,4 @@ module _ {s₁ s₂ : List ℕ} {p : Plan} (k : Planned s₁ s₂ p) where
 
   pub places-fit : size (take (p .d) (p .axes)) < 2 ^ 64
   unfolding gridSize
-  places-fit = rw grid (grid-fits s₁ (k .files .sound₁))
+  places-fit = rw grid (file-grid-fits s₁ (k .files .sound₁))

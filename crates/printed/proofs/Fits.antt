@@ -10,7 +10,7 @@ use lib.Dec.{lit≤, lit<}
 use lib.ListN.{length, getD, take, length-append, length-take}
 use Rattle.bound.specs.Axes.{axes}
 use Rattle.plan.proofs.Axes.{length-axes}
-use Rattle.plan.proofs.Axes.{grid-fits}
+use Rattle.plan.proofs.Axes.{file-grid-fits}
 use Rattle.file.specs.Accepted.{Accepted}
 use Rattle.fields.specs.File.{sizesOf}
 use Rattle.grid.specs.Grid.{widthsOf, axesOf, gridSize}
@@ -121,7 +121,7 @@ grid-most s a =
       spaced-most (axesOf (sizesOf s)) (axes-words (sizesOf s .m) (a .outputLow) (a .outputHigh) (widthsOf (sizesOf s))),
       length-axes s a,
       a .inputsHigh,
-      decimal-most (gridSize (sizesOf s)) (grid-fits s a),
+      decimal-most (gridSize (sizesOf s)) (file-grid-fits s a),
     ))
 
 pub fits : Fits

@@ -14,7 +14,6 @@ use Rattle.file.specs.Check.{fileNumber, refusalOf}
 use Rattle.fields.specs.File.{sizesOf}
 use Rattle.file.proofs.Accepted.{accepted}
 use Rattle.file.proofs.Number.{refusal-number}
-use Rattle.grid.proofs.Axes.{never-large}
 use Rattle.plan.proofs.Axes.{length-widths}
 use Rattle.ranges.proofs.Search.{every-at}
 use Rattle.sizes.specs.Sizes.{maxInputs, refusedBy, isRefusal}
@@ -39,14 +38,7 @@ module _ (s₁ s₂ : List ℕ) where
 
       pub pair-0 : sameSizes (sizesOf s₁) (sizesOf s₂) ≡ true → pairRefusal s₁ s₂ ≡ refusedBy 0
       unfolding pairRefusal
-      pair-0 e =
-          let a = accepted s₁ e₁ in
-          rw (
-            eq-eqb (fileNumber s₁) 0 e₁,
-            eq-eqb (fileNumber s₂) 0 e₂,
-            e,
-            never-large (sizesOf s₁) (a .outputLow) (a .outputHigh) (a .inputsHigh),
-          )
+      pair-0 e = rw (eq-eqb (fileNumber s₁) 0 e₁, eq-eqb (fileNumber s₂) 0 e₂, e)
 
 -- sizes with a word length for each input that a file may have and that pass the test are equal
 pub same-equal : (z w : Sizes) → length (z .widths) ≡ maxInputs → length (w .widths) ≡ maxInputs → sameSizes z w ≡ true → z ≡ w

@@ -1,6 +1,6 @@
 -- Opening and continuing a session (document 01, 'Sessions' and 'Refused because of the state').
 --   sameSizes z w          m, d and all word lengths are the same
---   pairRefusal s₁ s₂      what both calls judge of two files: file 1, file 2, 9, 10
+--   pairRefusal s₁ s₂      what both calls judge of two files: file 1, file 2, 9
 --   opened s₁ s₂           what opening answers
 --   misplaced G p mark     102. the position doesn't fit the mark
 --   stateRefusal           101, 102, 103
@@ -19,7 +19,7 @@ use Rattle.engine.specs.Engine.{outputsDiffer, largerCount}
 use Rattle.evaluate.specs.Evaluate.{outputOf, shortScratch}
 use Rattle.file.specs.Check.{fileNumber, refusalOf}
 use Rattle.fields.specs.File.{sizesOf}
-use Rattle.grid.specs.Grid.{axesOf, gridSize, tooLarge}
+use Rattle.grid.specs.Grid.{axesOf, gridSize}
 use Rattle.places.specs.Places.{vectorAt}
 use Rattle.ranges.specs.Search.{first, every}
 use Rattle.sizes.specs.Sizes.{maxInputs, within, refusedBy, accepted, isRefusal}
@@ -45,8 +45,7 @@ unfoldable pub pairRefusal : List ℕ → List ℕ → Refusal
 pairRefusal s₁ s₂ =
     cond (not (eqb (fileNumber s₁) 0)) (refusalOf 1 s₁)
     (cond (not (eqb (fileNumber s₂) 0)) (refusalOf 2 s₂)
-    (cond (not (sameSizes (sizesOf s₁) (sizesOf s₂))) (refusedBy 9)
-    (cond (tooLarge (sizesOf s₁)) (refusedBy 10) accepted)))
+    (cond (not (sameSizes (sizesOf s₁) (sizesOf s₂))) (refusedBy 9) accepted))
 
 -- a session of zeros, marked open
 unfoldable pub noSession : Session

@@ -1,4 +1,4 @@
--- `grid_calls::grid_call` meets its contract: the file's refusal, and after it zeros, or the axes and G of its sizes. Number 10 never occurs.
+-- `grid_calls::grid_call` meets its contract: the file's refusal, and after it zeros, or the axes and G of its sizes.
 -- Assumes nothing.
 use mathlib.Core.List.{_∷_, _++_}
 use mathlib.Core.Path.{_≡_, sym, _∙_, ap}

@@ -3,10 +3,11 @@
 //! Each wrapper first calls with answer slices of wrong lengths, none, one short and one long, and
 //! asks that the call returns 0 and touches nothing. Then it calls with the right length, asks for
 //! 1, and that nothing was touched but the answer and, where the function writes it, the scratch
-//! slice.
+//! slice. An answer that begins with a refusal carries a number that a condition has.
 
 use crate::bench::Outcome;
 use crate::lent::{Fence, Lent};
+use reference::calls::NUMBERS;
 
 unsafe extern "C" {
     fn corkbingo_check(file: *const u8, file_len: usize, out: *mut u64, out_len: usize) -> u32;
@@ -31,6 +32,9 @@ unsafe extern "C" {
 }
 
 type FileFunction = unsafe extern "C" fn(*const u8, usize, *mut u64, usize) -> u32;
+
+/// The words of a refusal; shorter answers begin with none.
+const REFUSAL: usize = 3;
 
 /// The longest file, vector and table, in bytes, that a test lends.
 const LONGEST_FILE: usize = 16_384;
@@ -189,7 +193,11 @@ pub fn perhaps<const LENGTH: usize>(
         }
         1 => {
             ask(out.guarded(), || format!("{name}: wrote beside the answer"))?;
-            Ok(Some(std::array::from_fn(|index| out.content()[index])))
+            let answer: [u64; LENGTH] = std::array::from_fn(|index| out.content()[index]);
+            ask(LENGTH < REFUSAL || NUMBERS.contains(&answer[0]), || {
+                format!("{name}: answered {answer:?}, whose number no condition has")
+            })?;
+            Ok(Some(answer))
         }
         returned => Err(format!("{name}: returned {returned}")),
     }

@@ -7,7 +7,9 @@
 use crate::Group;
 use crate::bench::{Bench, Outcome};
 use crate::faults::{FILE_FAULTS, sound_file};
+use crate::product::ask;
 use crate::refusals::plain;
+use reference::calls::NUMBERS;
 use reference::examples;
 use reference::expression::{Expression, falling, x};
 use reference::file::{STEPS, length};
@@ -120,12 +122,23 @@ fn whole(command: &mut Command) -> Outcome<Run> {
     }
     let output = done(child.wait_with_output())?;
     let text = |bytes| String::from_utf8(bytes).map_err(|error| error.to_string());
+    let lines = text(output.stdout)?;
+    ask(numbered(&lines), || format!("printed {lines:?}"))?;
     Ok(Run {
-        lines: text(output.stdout)?,
+        lines,
         said: text(output.stderr)?,
         status: (output.status.code())
             .ok_or_else(|| format!("the program ended by {}", output.status))?,
     })
+}
+
+/// Lines that begin with a refusal carry a number that a condition has.
+fn numbered(lines: &str) -> bool {
+    let Some(refusal) = lines.strip_prefix("refused ") else {
+        return true;
+    };
+    let number = refusal.split(' ').next().unwrap_or_default();
+    NUMBERS[1..].iter().any(|known| known.to_string() == number)
 }
 
 /// What a run prints.

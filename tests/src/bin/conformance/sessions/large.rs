@@ -1,4 +1,4 @@
-//! Sessions on the largest grids: at their ends, at differences far inside, and at any place.
+//! Sessions on large grids: at their ends, at differences far inside, and at any place.
 
 use super::bench::scratch;
 use crate::bench::{Bench, Outcome};

@@ -7,7 +7,8 @@
 //! | `refusals` | each refusal, and which comes first where several conditions hold |
 //! | `positions` | every position, mark and field of a session |
 //! | `replay` | the pairs of document 01 and the examples of document 002, by budgets |
-//! | `large` | the largest grids, at their ends and between |
+//! | `large` | large grids, at their ends and between |
+//! | `largest` | the largest grid of all, from its last places |
 //! | `lists` | random lists of calls, held against demand 3 |
 //! | `soak` | random sessions with random files |
 //! | `runs` | pairs whose outputs are worked out once, from any place |
@@ -20,6 +21,7 @@ mod bench;
 mod counts;
 mod differences;
 mod large;
+mod largest;
 mod lists;
 mod positions;
 mod product;
@@ -35,7 +37,7 @@ use crate::Group;
 /// Two files, in the order of the call.
 type Files<'a> = [&'a [u8]; 2];
 
-pub const GROUPS: [Group; 20] = [
+pub const GROUPS: [Group; 21] = [
     ("openings refused", None, refusals::opening),
     ("precedence in open and continue", None, refusals::subsets),
     ("sizes of the two files", None, refusals::sizes),
@@ -52,6 +54,7 @@ pub const GROUPS: [Group; 20] = [
         Some(large::SEED),
         large::sessions,
     ),
+    ("the largest grid", None, largest::sessions),
     ("random lists of calls", Some(lists::SEED), lists::lists),
     ("random sessions", Some(soak::SEED), soak::sessions),
     ("spans of equivalent pairs", Some(spans::SEED), spans::spans),

@@ -38,7 +38,7 @@ module _ (z : Sizes) (cells : List ℕ) (len : ℕ) where
     unfolding badCells
     cells-judged l = rw (le-ltb (length cells) (gridSize z) h, le-ltb len (gridSize z) l)
 
-  fitting : badCells z cells len ≡ false → Fitting z cells len
+  pub fitting : badCells z cells len ≡ false → Fitting z cells len
   unfolding badCells largeCell smallCell
   fitting e =
       let q = neither _ _ e in

@@ -1,3 +1,4 @@
 pub mod Evaluate
+pub mod Order
 pub mod Run
 pub mod Taken

@@ -1,3 +1,4 @@
 pub mod FileTables
 pub mod Filling
+pub mod Order
 pub mod Taken

@@ -25,7 +25,7 @@ use Rattle.sessions.proofs.Pair.{pair-0, same-equal, pair-accepted, com
 use Rattle.sessions.proofs.Step.{same-refl, answer-refusal}
 
 -- comparable files are accepted together
-pair-taken : (s₁ s₂ : List ℕ) → Comparable s₁ s₂ → pairRefusal s₁ s₂ ≡ refusedBy 0
+pub pair-taken : (s₁ s₂ : List ℕ) → Comparable s₁ s₂ → pairRefusal s₁ s₂ ≡ refusedBy 0
 pair-taken s₁ s₂ c =
     pair-0 s₁ s₂ (number-0 s₁ (c .sound₁)) (number-0 s₂ (c .sound₂)) (ap (sameSizes (sizesOf s₁)) (sym (c .same)) ∙ same-refl (sizesOf s₁))
 

@@ -16,6 +16,14 @@ pub range-within : (low high n : ℕ) → low ≤ n → n ≤ high → within lo
 range-within low high n l h = rw (le-leb low n l) (le-leb n high h)
 
 module _ (z : Sizes) where
+  pub output-within : (1 ≤ z .m) × (z .m ≤ 64) → badOutput z ≡ false
+  unfolding badOutput
+  output-within r = ap not (range-within 1 64 (z .m) (r .0) (r .1))
+
+  pub inputs-within : (1 ≤ z .d) × (z .d ≤ maxInputs) → badInputs z ≡ false
+  unfolding badInputs
+  inputs-within r = ap not (range-within 1 maxInputs (z .d) (r .0) (r .1))
+
   pub ruled : badOutput z ≡ false → badInputs z ≡ false → badWidths z ≡ false → Ruled z
   ruled o i w =
       let m = output-range z o in
@@ -32,12 +40,10 @@ module _ (z : Sizes) where
 
   module _ (r : Ruled z) where
     pub output-passes : badOutput z ≡ false
-    unfolding badOutput
-    output-passes = ap not (range-within 1 64 (z .m) (r .outputLow) (r .outputHigh))
+    output-passes = output-within (r .outputLow, r .outputHigh)
 
     pub inputs-pass : badInputs z ≡ false
-    unfolding badInputs
-    inputs-pass = ap not (range-within 1 maxInputs (z .d) (r .inputsLow) (r .inputsHigh))
+    inputs-pass = inputs-within (r .inputsLow, r .inputsHigh)
 
     width-passes : (i : ℕ) → i < maxInputs → widthRule z i ≡ true
     width-passes i h =

@@ -12,7 +12,7 @@ use Rattle.integers.specs.Modulo.{factorial}
 use Rattle.integers.proofs.Divisibility.{factorial-mod}
 use Rattle.ranges.specs.Search.{every}
 use Rattle.ranges.proofs.Search.{every-at}
-use Rattle.bound.specs.Bound.{bounds, bound, maxBound, LeastBound}
+use Rattle.bound.specs.Bound.{bounds, bound, maxBound, LargestBound, LeastBound}
 
 -- 2^(k + 1) divides L! and not (L − 1)!, where L is entry k
 right : ℕ → Bool
@@ -41,6 +41,10 @@ bound-least m low high = leb-true _ _ (bound-range m low high .0)
 
 pub bound-most : (m : ℕ) → 1 ≤ m → m ≤ 64 → bound m ≤ maxBound
 bound-most m low high = leb-true _ _ (bound-range m low high .1)
+
+pub largestBound : LargestBound
+unfolding bound bounds
+largestBound = (refl, bound-most)
 
 -- the bound of m is entry m − 1
 pub leastBound : LeastBound

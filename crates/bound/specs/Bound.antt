@@ -3,6 +3,7 @@
 --   bounds        L(1) to L(64)
 --   bound m       L(m), for m from 1 to 64
 --   maxBound      the largest of them, L(64)
+--   LargestBound  it is, and no other bound is above it. Proved in proofs/Least
 --   LeastBound    L(m) is that least number, for every m from 1 to 64. Proved in proofs/Least, by one test over the whole table
 use mathlib.Core.Path.{_≡_}
 use mathlib.Core.List.{List, [], _∷_}
@@ -26,6 +27,9 @@ bound m = getD bounds (m - 1) 0
 
 abbrev pub maxBound : ℕ
 maxBound = 66
+
+abbrev pub LargestBound : Type 0
+LargestBound = (maxBound ≡ bound 64) × ((m : ℕ) → 1 ≤ m → m ≤ 64 → bound m ≤ maxBound)
 
 abbrev pub LeastBound : Type 0
 LeastBound = (m : ℕ) → 1 ≤ m → m ≤ 64 → IsBound m (bound m)

@@ -8,8 +8,7 @@ use Prim.Native.Nat.{ℕ}
 use native.Mathlib.Decide.{ℕ-discrete}
 use lib.Dec.{eqb}
 use lib.ListN.{length}
-use borrow.Author.Tests.{eq-eqb, ne-eqb, eqb-true, not-false}
-use Rattle.engine.specs.Engine.{largerCount}
+use borrow.Author.Tests.{eq-eqb, ne-eqb}
 use Rattle.evaluate.specs.Evaluate.{shortScratch, badVector, refusalAt, evaluatedAt}
 use Rattle.file.specs.Check.{fileNumber, refusalOf}
 use Rattle.fields.specs.File.{sizesOf, stepCount}
@@ -23,11 +22,11 @@ use Rattle.layouts.specs.SessionWords.{sessionFrom}
 use Rattle.layouts.specs.SizeWords.{sizesFrom}
 use Rattle.ranges.proofs.Search.{true-or-false}
 use Rattle.session_calls.specs.SessionCalls.{openFits, continueFits, continuing, ContinueCall}
-use Rattle.sessions.specs.Session.{sameSizes, pairRefusal, misplaced, isClosed, stateRefusal, opened, continueRefusal, refusedAnswer, advanced, continued}
+use Rattle.sessions.specs.Session.{sameSizes, pairRefusal, opened, continueRefusal}
 use Rattle.sessions.specs.declared.Answer.{Answer}
 use Rattle.sessions.specs.declared.Session.{Session}
-use Rattle.sessions.proofs.Step.{progress-accepts}
-use Rattle.sizes.specs.Sizes.{within, badOutput, badInputs, badWidths, refusedBy, accepted, isRefusal}
+use Rattle.sessions.proofs.Taken.{passed-accepted, carried}
+use Rattle.sizes.specs.Sizes.{within, badOutput, badInputs, badWidths, refusedBy, accepted}
 use Rattle.sizes.specs.declared.Refusal.{Refusal}
 use Rattle.sizes.specs.declared.Sizes.{Sizes}
 use Rattle.table_calls.specs.TableCalls.{cellsFit}
@@ -86,20 +85,8 @@ plain-pair s₁ s₂ =
     (plain-cond (not (eqb (fileNumber s₂) 0)) (plain-file 2 s₂)
     (plain-cond (not (sameSizes (sizesOf s₁) (sizesOf s₂))) (plain-by 9) (plain-by 0)))
 
-plain-state : (z : Sizes) (G : ℕ) (σ : Session) → Plain (stateRefusal z G σ)
-unfolding stateRefusal
-plain-state z G σ =
-    plain-cond (not (sameSizes (σ .sizes) z)) (plain-by 101)
-    (plain-cond (misplaced G (σ .position) (σ .mark)) (plain-by 102)
-    (plain-cond (isClosed (σ .mark)) (plain-by 103) (plain-by 0)))
-
 plain-continue : (s₁ s₂ : List ℕ) (σ : Session) (B len : ℕ) → Plain (continueRefusal s₁ s₂ σ B len)
-unfolding continueRefusal
-plain-continue s₁ s₂ σ B len =
-    plain-cond (eqb B 0) (plain-by 11)
-    (plain-cond (isRefusal (pairRefusal s₁ s₂)) (plain-pair s₁ s₂)
-    (plain-cond (shortScratch (largerCount s₁ s₂) len) (plain-by 12)
-    (plain-state (sizesOf s₁) (gridSize (sizesOf s₁)) σ)))
+plain-continue s₁ s₂ σ B len = record { passes = λ e. passed-accepted s₁ s₂ σ B len (ap not (eq-eqb _ 0 e)) }
 
 plain-opened : (s₁ s₂ : List ℕ) → Plain (opened s₁ s₂ .refusal)
 unfolding opened
@@ -135,19 +122,6 @@ grid-says f o e =
       | yes z ↦ says (refusalOf 1 f) o (gridAsWords (gridOf (sizesOf f))) (e ∙ grid-accepted f z ∙ rw (eq-eqb (fileNumber f) 0 z)) (plain-file 1 f)
       | no n ↦ says (refusalOf 1 f) o noGrid (e ∙ grid-refused f n) (plain-file 1 f)
     ]
-
--- the refusal that a continue call's answer carries
-module _ (f₁ f₂ : List ℕ) (σ : Session) (B len : ℕ) where
-  abbrev R : Refusal
-  R = continueRefusal f₁ f₂ σ B len
-
-  carried : continued f₁ f₂ σ B len .answer .refusal ≡ R
-  unfolding continued advanced refusedAnswer
-  carried =
-      ⊎-elim
-      (λ (e : isRefusal R ≡ true). rw e)
-      (λ (e : isRefusal R ≡ false). rw e (progress-accepts f₁ f₂ σ B _ _ ∙ sym (plain-continue f₁ f₂ σ B len .passes (eqb-true (R .number) 0 (not-false _ e)))))
-      (true-or-false (isRefusal R))
 
 -- the words of an answer after its refusal
 abbrev after : Answer → List ℕ

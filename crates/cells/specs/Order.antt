@@ -8,17 +8,17 @@
 --   CellsInOrder               so the calls judge. Proved in proofs/Order
 use mathlib.Core.List.{List}
 use mathlib.Core.Path.{_≡_}
-use Prim.Native.Nat.{ℕ, _≤_}
-use Rattle.sizes.specs.Sizes.{maxInputs, Ruled, refusedBy}
+use Prim.Native.Nat.{ℕ}
+use Rattle.sizes.specs.Sizes.{OutputRuled, InputsRuled, Ruled, refusedBy}
 use Rattle.sizes.specs.declared.Refusal.{Refusal}
 use Rattle.sizes.specs.declared.Sizes.{Sizes}
 use Rattle.cells.specs.Cells.{cellsRefusal}
 use Rattle.cells.specs.Taken.{Fitting}
 
 pub record CellsOrder (z : Sizes) (cells : List ℕ) (len : ℕ) (r : Refusal) : Type 0 where
-  pub output : ¬ ((1 ≤ z .m) × (z .m ≤ 64)) → r ≡ refusedBy 2
-  pub inputs : (1 ≤ z .m) × (z .m ≤ 64) → ¬ ((1 ≤ z .d) × (z .d ≤ maxInputs)) → r ≡ refusedBy 3
-  pub widths : (1 ≤ z .m) × (z .m ≤ 64) → (1 ≤ z .d) × (z .d ≤ maxInputs) → ¬ Ruled z → r ≡ refusedBy 5
+  pub output : ¬ OutputRuled z → r ≡ refusedBy 2
+  pub inputs : OutputRuled z → ¬ InputsRuled z → r ≡ refusedBy 3
+  pub widths : OutputRuled z → InputsRuled z → ¬ Ruled z → r ≡ refusedBy 5
   pub entries : Ruled z → ¬ Fitting z cells len → r ≡ refusedBy 13
 
 abbrev pub CellsInOrder : Type 0

@@ -1,32 +1,22 @@
 -- A file whose number is 0 keeps all of document 01's rules. The head by the tests that passed; each step because none before N is
 -- faulty, so that its operation byte and its argument pass their tests. Assumes nothing.
-use mathlib.Core.Bool.{true, false, _&&_, and-eq-true-iff}
+use mathlib.Core.Bool.{false}
 use mathlib.Core.List.{List}
 use mathlib.Core.Path.{_≡_, sym, _∙_, subst}
-use Prim.Native.Nat.{ℕ, _^_, _≤_, _<_}
+use Prim.Native.Nat.{ℕ, _≤_, _<_}
 use native.Mathlib.Decide.{ℕ-discrete}
 use native.Mathlib.Omega.{arith}
-use lib.Dec.{ltb, eqb}
-use borrow.Author.Tests.{ltb-true, eqb-true, not-false}
+use borrow.Author.Tests.{eqb-true, not-false}
 use Rattle.ranges.proofs.Search.{first-before}
 use Rattle.sizes.proofs.Ranges.{within-range, output-range, inputs-range, width-used, width-unused}
 use Rattle.datapath.specs.declared.Step.{Step}
 use Rattle.fields.specs.Steps.{stepAt}
 use Rattle.fields.proofs.Steps.{step-input, step-constant, step-add, step-subtract, step-otherwise}
-use Rattle.file.specs.Accepted.{Accepted, Counted, StepRule}
-use Rattle.file.specs.Check.{maxSteps, upperHalf, badOperation, badArgument, operandsRule, argumentRule, stepFault, faultyAt, faultyStep, fileNumber}
+use Rattle.file.specs.Accepted.{OperationRuled, ArgumentRuled, Accepted, Counted, StepRule}
+use Rattle.file.specs.Check.{maxSteps, badOperation, badArgument, stepFault, faultyAt, faultyStep, fileNumber}
 use Rattle.fields.specs.File.{sizesOf, stepCount, operation, argument, leftOperand, rightOperand}
-use Rattle.file.proofs.Cases.{rule-input, rule-constant, rule-operands}
+use Rattle.file.proofs.Steps.{operation-kept, argument-kept}
 use Rattle.file.proofs.Number.{cond-zero, head-passed, number-zero}
-
--- both operands of a kept rule, and the upper half, which is zero: the argument is below 2^32
-operands-range : (k a : ℕ) → operandsRule k a ≡ true → (leftOperand a < k) × (rightOperand a < k) × (a < 2 ^ 32)
-unfolding operandsRule
-operands-range k a e =
-    let p = and-eq-true-iff (ltb (leftOperand a) k && ltb (rightOperand a) k) (eqb (upperHalf a) 0) .0 e in
-    let q = and-eq-true-iff (ltb (leftOperand a) k) (ltb (rightOperand a) k) .0 (p .0) in
-    let upper : upperHalf a ≡ 0 = eqb-true _ _ (p .1) in
-    (ltb-true _ _ (q .0), ltb-true _ _ (q .1), omega arith)
 
 module _ (s : List ℕ) (e : fileNumber s ≡ 0) where
   -- the tests that step k passed
@@ -37,21 +27,13 @@ module _ (s : List ℕ) (e : fileNumber s ≡ 0) where
       let p = cond-zero (badOperation s k) 6 _ (eqb-true _ _ (not-false _ none)) in
       (p .0, cond-zero (badArgument s k) 7 _ (p .1) .0)
 
-  operation-range : (k : ℕ) → k < stepCount s → (1 ≤ operation s k) × (operation s k ≤ 5)
+  operations : (k : ℕ) → k < stepCount s → OperationRuled s k
   unfolding badOperation
-  operation-range k l = within-range 1 5 (operation s k) (not-false _ (step-passed k l .0))
+  operations k l = operation-kept s k (not-false _ (step-passed k l .0))
 
-  rule-kept : (k : ℕ) → k < stepCount s → argumentRule (sizesOf s) k (operation s k) (argument s k) ≡ true
+  arguments : (k : ℕ) → k < stepCount s → ArgumentRuled s k
   unfolding badArgument
-  rule-kept k l = not-false _ (step-passed k l .1)
-
-  operands-kept :
-      (k : ℕ) → k < stepCount s → 3 ≤ operation s k
-      → (leftOperand (argument s k) < k) × (rightOperand (argument s k) < k) × (argument s k < 2 ^ 32)
-  operands-kept k l h =
-      operands-range k (argument s k)
-      (sym (rule-operands (sizesOf s) k _ _ (λ (q : operation s k ≡ 1). omega arith) (λ (q : operation s k ≡ 2). omega arith))
-      ∙ rule-kept k l)
+  arguments k l = argument-kept s k (not-false _ (step-passed k l .1))
 
   pub accepted : Accepted s
   accepted =
@@ -71,25 +53,20 @@ module _ (s : List ℕ) (e : fileNumber s ≡ 0) where
         widthLow = λ i l. width-used (sizesOf s) (head .widths) i l (omega arith) .0;
         widthHigh = λ i l. width-used (sizesOf s) (head .widths) i l (omega arith) .1;
         widthUnused = width-unused (sizesOf s) (head .widths);
-        operationLow = λ k l. operation-range k l .0;
-        operationHigh = λ k l. operation-range k l .1;
-        inputArgument = λ k l o. ltb-true _ _ (sym (rule-input (sizesOf s) k _ _ o) ∙ rule-kept k l);
-        constantArgument = λ k l o. ltb-true _ _ (sym (rule-constant (sizesOf s) k _ _ o) ∙ rule-kept k l);
-        leftBefore = λ k l h. operands-kept k l h .0;
-        rightBefore = λ k l h. operands-kept k l h .1;
-        upperZero = λ k l h. operands-kept k l h .2;
+        operations = operations;
+        arguments = arguments;
       }
 
 -- every step of an accepted file keeps its rule
 step-rule : (s : List ℕ) → Accepted s → (k : ℕ) → k < stepCount s → StepRule (sizesOf s) k (stepAt s k)
 step-rule s a k l =
     elim (ℕ-discrete (operation s k) 1) [
-      | yes o ↦ subst (StepRule (sizesOf s) k) (sym (step-input s k o)) (a .inputArgument k l o)
+      | yes o ↦ subst (StepRule (sizesOf s) k) (sym (step-input s k o)) (a .arguments k l .input o)
       | no n₁ ↦ elim (ℕ-discrete (operation s k) 2) [
-        | yes o ↦ subst (StepRule (sizesOf s) k) (sym (step-constant s k o)) (a .constantArgument k l o)
+        | yes o ↦ subst (StepRule (sizesOf s) k) (sym (step-constant s k o)) (a .arguments k l .constant o)
         | no n₂ ↦
-            let h : 3 ≤ operation s k = omega (arith, a .operationLow k l, n₁, n₂) in
-            let before : (leftOperand (argument s k) < k) × (rightOperand (argument s k) < k) = (a .leftBefore k l h, a .rightBefore k l h) in
+            let h : 3 ≤ operation s k = omega (arith, a .operations k l, n₁, n₂) in
+            let before : (leftOperand (argument s k) < k) × (rightOperand (argument s k) < k) = (a .arguments k l .left h, a .arguments k l .right h) in
             elim (ℕ-discrete (operation s k) 3) [
               | yes o ↦ subst (StepRule (sizesOf s) k) (sym (step-add s k o)) before
               | no n₃ ↦ elim (ℕ-discrete (operation s k) 4) [

@@ -1,4 +1,7 @@
 -- What holds of an accepted file, as orders and equations of numbers: document 01's rules, with no test in them.
+--   OperationRuled s k   7 with no test in it: the operation byte of step k is 1 to 5
+--   ArgumentRuled s k    8 with no test in it: the argument of step k, by its operation. An input is one of the d, a constant fits m bits,
+--                    both operands are earlier steps, and the upper half is 0
 --   Accepted s       the rules of the head, the length, the word lengths and each step of s
 --   AcceptedExactly  a file has the number 0 exactly where it keeps them. Proved in proofs/Sound
 --   Counted s n      the file s is accepted and has n steps
@@ -15,6 +18,16 @@ use Rattle.datapath.specs.declared.Step.the-variants.{Input, Constant, Add, Sub
 use Rattle.file.specs.Check.{maxSteps, fileNumber}
 use Rattle.fields.specs.File.{headLength, sizesOf, stepCount, operation, argument, leftOperand, rightOperand}
 
+abbrev pub OperationRuled : List ℕ → ℕ → Type 0
+OperationRuled s k = (1 ≤ operation s k) × (operation s k ≤ 5)
+
+pub record ArgumentRuled (s : List ℕ) (k : ℕ) : Type 0 where
+  pub input : operation s k ≡ 1 → argument s k < sizesOf s .d
+  pub constant : operation s k ≡ 2 → argument s k < 2 ^ sizesOf s .m
+  pub left : 3 ≤ operation s k → leftOperand (argument s k) < k
+  pub right : 3 ≤ operation s k → rightOperand (argument s k) < k
+  pub upper : 3 ≤ operation s k → argument s k < 2 ^ 32
+
 pub record Accepted (s : List ℕ) : Type 0 where
   pub long : headLength ≤ length s
   pub size : length s ≡ headLength + 9 * stepCount s
@@ -27,13 +40,8 @@ pub record Accepted (s : List ℕ) : Type 0 where
   pub widthLow : (i : ℕ) → i < sizesOf s .d → 1 ≤ getD (sizesOf s .widths) i 0
   pub widthHigh : (i : ℕ) → i < sizesOf s .d → getD (sizesOf s .widths) i 0 ≤ 64
   pub widthUnused : (i : ℕ) → sizesOf s .d ≤ i → i < maxInputs → getD (sizesOf s .widths) i 0 ≡ 0
-  pub operationLow : (k : ℕ) → k < stepCount s → 1 ≤ operation s k
-  pub operationHigh : (k : ℕ) → k < stepCount s → operation s k ≤ 5
-  pub inputArgument : (k : ℕ) → k < stepCount s → operation s k ≡ 1 → argument s k < sizesOf s .d
-  pub constantArgument : (k : ℕ) → k < stepCount s → operation s k ≡ 2 → argument s k < 2 ^ sizesOf s .m
-  pub leftBefore : (k : ℕ) → k < stepCount s → 3 ≤ operation s k → leftOperand (argument s k) < k
-  pub rightBefore : (k : ℕ) → k < stepCount s → 3 ≤ operation s k → rightOperand (argument s k) < k
-  pub upperZero : (k : ℕ) → k < stepCount s → 3 ≤ operation s k → argument s k < 2 ^ 32
+  pub operations : (k : ℕ) → k < stepCount s → OperationRuled s k
+  pub arguments : (k : ℕ) → k < stepCount s → ArgumentRuled s k
 
 abbrev pub AcceptedExactly : Type 0
 AcceptedExactly = (s : List ℕ) → (fileNumber s ≡ 0) ↔ Accepted s

@@ -2,4 +2,5 @@ pub mod Accepted
 pub mod Check
 pub mod Headed
 pub mod Long
+pub mod Order
 pub mod Stretch

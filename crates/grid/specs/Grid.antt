@@ -3,9 +3,9 @@
 --   axesOf z      u_1 to u_d
 --   gridSize z    G, the product of the axes
 --   gridOf z      the axes, with 0 past the last input, and G
---   GridFits      of sizes that 2, 3 and 5 accept, G has 64 bits. Proved in proofs/Grids:
---     most        G is at most the largest bound, once for each input
---     fits        so it is below 2^64, with as many inputs as a file may have
+--   GridFits      of sizes that 2, 3 and 5 accept, G fits 64 bits. Proved in proofs/Grids:
+--     most        G is at most the largest bound to the power d
+--     fits        so it is below 2^64, with any count of inputs that a file may have
 use mathlib.Core.List.{List, _++_}
 use Prim.Native.Nat.{ℕ, _-_, _^_, _≤_, _<_}
 use lib.ListN.{take, replicate}

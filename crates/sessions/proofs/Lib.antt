@@ -1,6 +1,7 @@
 pub mod Calls
 pub mod Cases
 pub mod Demand3
+pub mod FullWidth
 pub mod Order
 pub mod Pair
 pub mod Position

@@ -2,31 +2,30 @@
 -- Assumes nothing.
 use mathlib.Core.Bool.{true, false, not, not-eq-not}
 use mathlib.Core.List.{List}
-use mathlib.Core.Path.{_≡_, refl, sym, _∙_, ap}
+use mathlib.Core.Path.{_≡_, refl, _∙_, ap}
 use Prim.Native.Nat.{ℕ, _≤_, _<_}
 use native.Mathlib.Omega.{arith}
 use lib.ListN.{length}
-use borrow.Author.Tests.{lt-ltb, le-ltb, ltb-true, eq-eqb, ne-eqb, eqb-true, not-false}
+use borrow.Author.Tests.{lt-ltb, le-ltb, eq-eqb, ne-eqb, not-false}
 use Rattle.engine.specs.Engine.{largerCount, Comparable}
 use Rattle.fields.specs.File.{sizesOf}
-use Rattle.file.specs.Accepted.{Accepted}
 use Rattle.file.proofs.Accepted.{accepted}
 use Rattle.file.proofs.Sound.{number-0}
 use Rattle.grid.specs.Grid.{gridSize}
 use Rattle.plan.proofs.Axes.{length-widths}
 use Rattle.sizes.specs.Sizes.{maxInputs, refusedBy, isRefusal}
-use Rattle.sizes.specs.declared.Refusal.{Refusal}
 use Rattle.sizes.specs.declared.Sizes.{Sizes}
 use Rattle.sizes.proofs.Ranges.{within-range}
 use Rattle.sizes.proofs.Ruled.{range-within}
-use Rattle.sessions.specs.Order.{OpenOrder, OpenInOrder, Affordable, FitsMark, ContinueOrder, ContinueInOrder}
-use Rattle.sessions.specs.Session.{sameSizes, pairRefusal, opened, misplaced, isClosed, stateRefusal, continueRefusal, refusedAnswer, continued}
+use Rattle.sessions.specs.Order.{OpenInOrder, ContinueInOrder, AnswerCarries}
+use Rattle.sessions.specs.Session.{sameSizes, pairRefusal, opened, misplaced, isClosed, stateRefusal, continueRefusal}
+use Rattle.sessions.specs.Taken.{CallTaken}
 use Rattle.sessions.specs.declared.Mark.{Mark}
 use Rattle.sessions.specs.declared.Mark.the-variants.{Open, Equal, Differ}
 use Rattle.sessions.specs.declared.Session.{Session}
 use Rattle.sessions.proofs.Pair.{pair-first, pair-second, pair-9, same-equal, comparable}
 use Rattle.sessions.proofs.Step.{same-refl}
-use Rattle.sessions.proofs.Taken.{pair-taken}
+use Rattle.sessions.proofs.Taken.{pair-taken, carried}
 
 -- other sizes fail the test
 other-sizes : (z w : Sizes) → length (z .widths) ≡ maxInputs → length (w .widths) ≡ maxInputs → ¬ (z ≡ w) → sameSizes z w ≡ false
@@ -42,31 +41,29 @@ openInOrder s₁ s₂ =
           pair-9 s₁ s₂ (number-0 s₁ a) (number-0 s₂ b) (other-sizes _ _ (length-widths s₁ a) (length-widths s₂ b) n);
     }
 
--- a position passes the test exactly where it fits
-fitted : (G p : ℕ) (mark : Mark) → misplaced G p mark ≡ false → FitsMark G p mark
-unfolding FitsMark misplaced
-fitted G p Open e = ltb-true p G (not-false _ e)
-fitted G p Equal e = eqb-true p G (not-false _ e)
-fitted G p Differ e = within-range 1 G p (not-false _ e)
+-- 102, mark by mark
+module _ (G p : ℕ) where
+  misplaced-open : G ≤ p → misplaced G p Open ≡ true
+  unfolding misplaced
+  misplaced-open l = ap not (le-ltb p G l)
 
-fit : (G p : ℕ) (mark : Mark) → FitsMark G p mark → misplaced G p mark ≡ false
-unfolding FitsMark misplaced
-fit G p Open l = ap not (lt-ltb p G l)
-fit G p Equal e = ap not (eq-eqb p G e)
-fit G p Differ r = ap not (range-within 1 G p (r .0) (r .1))
+  misplaced-equal : ¬ (p ≡ G) → misplaced G p Equal ≡ true
+  unfolding misplaced
+  misplaced-equal n = ap not (ne-eqb p G n)
 
-closed : (mark : Mark) → ¬ (mark ≡ Open) → isClosed mark ≡ true
-unfolding isClosed
-closed Open n = absurd (n refl)
-closed Equal n = refl
-closed Differ n = refl
+  misplaced-differ : ¬ ((1 ≤ p) × (p ≤ G)) → misplaced G p Differ ≡ true
+  unfolding misplaced
+  misplaced-differ n = not-eq-not .0 (λ e. n (within-range 1 G p (not-false _ e)))
+
+  placed-equal : p ≡ G → misplaced G p Equal ≡ false
+  unfolding misplaced
+  placed-equal e = ap not (eq-eqb p G e)
+
+  placed-differ : 1 ≤ p → p ≤ G → misplaced G p Differ ≡ false
+  unfolding misplaced
+  placed-differ l h = ap not (range-within 1 G p l h)
 
 module _ (s₁ s₂ : List ℕ) (σ : Session) (B len : ℕ) where
-  -- a refusal goes into the answer
-  carried : (r : Refusal) → isRefusal r ≡ true → continueRefusal s₁ s₂ σ B len ≡ r → continued s₁ s₂ σ B len .answer .refusal ≡ r
-  unfolding continued refusedAnswer
-  carried r e q = rw (q, e)
-
   refused-files : ¬ Comparable s₁ s₂ → isRefusal (pairRefusal s₁ s₂) ≡ true
   refused-files n = not-eq-not .0 (λ e. n (comparable s₁ s₂ e))
 
@@ -82,36 +79,43 @@ module _ (s₁ s₂ : List ℕ) (σ : Session) (B len : ℕ) where
   unfolding continueRefusal
   by-room b c l = rw (ne-eqb B 0 (λ e. omega arith), pair-taken s₁ s₂ c, lt-ltb len (largerCount s₁ s₂) l)
 
-  module _ (a : Affordable s₁ s₂ B len) where
-    by-state : continueRefusal s₁ s₂ σ B len ≡ stateRefusal (sizesOf s₁) (gridSize (sizesOf s₁)) σ
+  module _ (c : CallTaken s₁ s₂ B len) where
+    abbrev G : ℕ
+    G = gridSize (sizesOf s₁)
+
+    by-state : continueRefusal s₁ s₂ σ B len ≡ stateRefusal (sizesOf s₁) G σ
     unfolding continueRefusal
-    by-state = rw (ne-eqb B 0 (λ e. omega (arith, a .budget)), pair-taken s₁ s₂ (a .files), le-ltb len (largerCount s₁ s₂) (a .room))
+    by-state = rw (ne-eqb B 0 (λ e. omega (arith, c .budget)), pair-taken s₁ s₂ (c .files), le-ltb len (largerCount s₁ s₂) (c .room))
 
-  by-sizes : (z : Sizes) (G : ℕ) → sameSizes (σ .sizes) z ≡ false → stateRefusal z G σ ≡ refusedBy 101
-  unfolding stateRefusal
-  by-sizes z G e = rw e
+    by-sizes : sameSizes (σ .sizes) (sizesOf s₁) ≡ false → continueRefusal s₁ s₂ σ B len ≡ refusedBy 101
+    unfolding stateRefusal
+    by-sizes e = by-state ∙ rw e
 
-  by-position : (z : Sizes) (G : ℕ) → σ .sizes ≡ z → misplaced G (σ .position) (σ .mark) ≡ true → stateRefusal z G σ ≡ refusedBy 102
-  unfolding stateRefusal
-  by-position z G e m = rw (e, same-refl, m)
+    module _ (same : σ .sizes ≡ sizesOf s₁) where
+      by-position : (mark : Mark) → σ .mark ≡ mark → misplaced G (σ .position) mark ≡ true → continueRefusal s₁ s₂ σ B len ≡ refusedBy 102
+      unfolding stateRefusal
+      by-position mark e m = by-state ∙ rw (same, same-refl, e, m)
 
-  by-mark :
-      (z : Sizes) (G : ℕ) → σ .sizes ≡ z → misplaced G (σ .position) (σ .mark) ≡ false → isClosed (σ .mark) ≡ true →
-      stateRefusal z G σ ≡ refusedBy 103
-  unfolding stateRefusal
-  by-mark z G e m c = rw (e, same-refl, m, c)
+      by-mark :
+          (mark : Mark) → σ .mark ≡ mark → misplaced G (σ .position) mark ≡ false → isClosed mark ≡ true →
+          continueRefusal s₁ s₂ σ B len ≡ refusedBy 103
+      unfolding stateRefusal
+      by-mark mark e m closed = by-state ∙ rw (same, same-refl, e, m, closed)
 
 pub continueInOrder : ContinueInOrder
-unfolding opened
+unfolding opened isClosed
 continueInOrder s₁ s₂ σ B len long =
-    let carry = carried s₁ s₂ σ B len in
     record {
-      budget = λ e. carry _ refl (by-budget s₁ s₂ σ B len e);
-      files = λ b n. carry _ (refused-files s₁ s₂ σ B len n) (by-files s₁ s₂ σ B len b n);
-      room = λ b c l. carry _ refl (by-room s₁ s₂ σ B len b c l);
-      sizes = λ a n.
-          carry _ refl
-          (by-state s₁ s₂ σ B len a ∙ by-sizes s₁ s₂ σ B len _ _ (other-sizes _ _ long (length-widths s₁ (a .files .sound₁)) n));
-      position = λ a e n. carry _ refl (by-state s₁ s₂ σ B len a ∙ by-position s₁ s₂ σ B len _ _ e (not-eq-not .0 (λ m. n (fitted _ _ (σ .mark) m))));
-      mark = λ a e f n. carry _ refl (by-state s₁ s₂ σ B len a ∙ by-mark s₁ s₂ σ B len _ _ e (fit _ _ (σ .mark) f) (closed (σ .mark) n));
+      budget = by-budget s₁ s₂ σ B len;
+      files = by-files s₁ s₂ σ B len;
+      room = by-room s₁ s₂ σ B len;
+      sizes = λ c n. by-sizes s₁ s₂ σ B len c (other-sizes _ _ long (length-widths s₁ (c .files .sound₁)) n);
+      open-past = λ c z m l. by-position s₁ s₂ σ B len c z Open m (misplaced-open _ _ l);
+      equal-elsewhere = λ c z m n. by-position s₁ s₂ σ B len c z Equal m (misplaced-equal _ _ n);
+      differ-outside = λ c z m n. by-position s₁ s₂ σ B len c z Differ m (misplaced-differ _ _ n);
+      closed-equal = λ c z m e. by-mark s₁ s₂ σ B len c z Equal m (placed-equal _ _ e) refl;
+      closed-differ = λ c z m l h. by-mark s₁ s₂ σ B len c z Differ m (placed-differ _ _ l h) refl;
     }
+
+pub answerCarries : AnswerCarries
+answerCarries = carried

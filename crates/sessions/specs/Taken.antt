@@ -1,9 +1,12 @@
 -- Which calls opening and continuing take, as orders and equations, with no test in them. Each statement is proved in proofs/Taken.
 --   OpenExactly       opening answers the number 0 exactly where both files are accepted and have the same sizes
---   ContinueTaken     what a continue call asks:
+--   FullWidthTaken    of an accepted file, evaluating takes just the full-width vectors, of which demand 3 speaks
+--   CallTaken s₁ s₂ B len   what a continue call asks of all but its session:
 --     budget      the budget is not 0
 --     files       both files are accepted, and have the same sizes
 --     room        the scratch slice has as many entries as the larger N
+--   ContinueTaken     what it asks in all:
+--     call        the above
 --     sizes       the session's sizes are the files'
 --     mark        it is open
 --     position    its position is below G
@@ -14,9 +17,12 @@ use mathlib.Core.Path.{_≡_}
 use Prim.Native.Nat.{ℕ, _≤_, _<_}
 use lib.ListN.{length}
 use Rattle.engine.specs.Engine.{largerCount, Comparable}
+use Rattle.evaluate.specs.Taken.{FullVector}
 use Rattle.fields.specs.File.{sizesOf}
+use Rattle.file.specs.Accepted.{Accepted}
 use Rattle.grid.specs.Grid.{gridSize}
 use Rattle.sizes.specs.Sizes.{maxInputs}
+use Rattle.sessions.specs.Demand3.{FullWidth}
 use Rattle.sessions.specs.Session.{opened, continued}
 use Rattle.sessions.specs.declared.Mark.the-variants.{Open}
 use Rattle.sessions.specs.declared.Session.{Session}
@@ -24,10 +30,16 @@ use Rattle.sessions.specs.declared.Session.{Session}
 abbrev pub OpenExactly : Type 0
 OpenExactly = (s₁ s₂ : List ℕ) → (opened s₁ s₂ .refusal .number ≡ 0) ↔ Comparable s₁ s₂
 
-pub record ContinueTaken (s₁ s₂ : List ℕ) (σ : Session) (B len : ℕ) : Type 0 where
+abbrev pub FullWidthTaken : Type 0
+FullWidthTaken = (s x : List ℕ) → Accepted s → FullVector (sizesOf s) x ↔ FullWidth s x
+
+pub record CallTaken (s₁ s₂ : List ℕ) (B len : ℕ) : Type 0 where
   pub budget : 1 ≤ B
   pub files : Comparable s₁ s₂
   pub room : largerCount s₁ s₂ ≤ len
+
+pub record ContinueTaken (s₁ s₂ : List ℕ) (σ : Session) (B len : ℕ) : Type 0 where
+  pub call : CallTaken s₁ s₂ B len
   pub sizes : σ .sizes ≡ sizesOf s₁
   pub mark : σ .mark ≡ Open
   pub position : σ .position < gridSize (sizesOf s₁)

@@ -9,7 +9,7 @@ use lib.ListN.{getD}
 use borrow.Author.Tests.{leb-true, lt-ltb, le-ltb, eqb-true, not-false}
 use Rattle.ranges.proofs.Search.{every-at}
 use Rattle.sizes.specs.declared.Sizes.{Sizes}
-use Rattle.sizes.specs.Sizes.{within, maxInputs, badOutput, badInputs, badWidths, widthRule, Sound}
+use Rattle.sizes.specs.Sizes.{within, maxInputs, badOutput, badInputs, badWidths, widthRule, OutputRuled, InputsRuled, Sound}
 
 pub within-range : (low high n : ℕ) → within low high n ≡ true → (low ≤ n) × (n ≤ high)
 within-range low high n e =
@@ -17,11 +17,11 @@ within-range low high n e =
     (leb-true low n (both .0), leb-true n high (both .1))
 
 module _ (z : Sizes) where
-  pub output-range : badOutput z ≡ false → (1 ≤ z .m) × (z .m ≤ 64)
+  pub output-range : badOutput z ≡ false → OutputRuled z
   unfolding badOutput
   output-range e = within-range 1 64 (z .m) (not-false _ e)
 
-  pub inputs-range : badInputs z ≡ false → (1 ≤ z .d) × (z .d ≤ maxInputs)
+  pub inputs-range : badInputs z ≡ false → InputsRuled z
   unfolding badInputs
   inputs-range e = within-range 1 maxInputs (z .d) (not-false _ e)
 

@@ -8,7 +8,7 @@ use native.Mathlib.Omega.{arith}
 use lib.ListN.{getD}
 use borrow.Author.Tests.{le-leb, eq-eqb}
 use Rattle.ranges.proofs.Search.{every-of}
-use Rattle.sizes.specs.Sizes.{within, maxInputs, badOutput, badInputs, badWidths, widthRule, Ruled, RuledExactly}
+use Rattle.sizes.specs.Sizes.{within, maxInputs, badOutput, badInputs, badWidths, widthRule, OutputRuled, InputsRuled, Ruled, RuledExactly}
 use Rattle.sizes.specs.declared.Sizes.{Sizes}
 use Rattle.sizes.proofs.Ranges.{output-range, inputs-range, rule-used, rule-unused, width-used, width-unused}
 
@@ -16,11 +16,11 @@ pub range-within : (low high n : ℕ) → low ≤ n → n ≤ high → within lo
 range-within low high n l h = rw (le-leb low n l) (le-leb n high h)
 
 module _ (z : Sizes) where
-  pub output-within : (1 ≤ z .m) × (z .m ≤ 64) → badOutput z ≡ false
+  pub output-within : OutputRuled z → badOutput z ≡ false
   unfolding badOutput
   output-within r = ap not (range-within 1 64 (z .m) (r .0) (r .1))
 
-  pub inputs-within : (1 ≤ z .d) × (z .d ≤ maxInputs) → badInputs z ≡ false
+  pub inputs-within : InputsRuled z → badInputs z ≡ false
   unfolding badInputs
   inputs-within r = ap not (range-within 1 maxInputs (z .d) (r .0) (r .1))
 

@@ -7,6 +7,8 @@
 --   accepts r    the call that answers r is accepted
 --   isRefusal r  and that it is refused
 --   maxInputs    the largest count of inputs, which is also the count of word-length bytes
+--   OutputRuled z   2 with no test in it: m is 1 to 64
+--   InputsRuled z   3 with no test in it: d is 1 to maxInputs
 --   Ruled z      2, 3 and 5 with no test in them: m is 1 to 64, d is 1 to maxInputs, and each word length keeps its rule
 --   RuledExactly sizes pass the tests 2, 3 and 5 exactly there. Proved in proofs/Ruled
 --   Sound z      m is 1 to 64, and d is at most maxInputs: what a grid asks
@@ -40,6 +42,12 @@ widthRule z i = cond (ltb i (z .d)) (within 1 64 (getD (z .widths) i 0)) (eqb (g
 unfoldable pub badWidths : Sizes → Bool
 badWidths z = not (every (widthRule z) 0 maxInputs)
 
+abbrev pub OutputRuled : Sizes → Type 0
+OutputRuled z = (1 ≤ z .m) × (z .m ≤ 64)
+
+abbrev pub InputsRuled : Sizes → Type 0
+InputsRuled z = (1 ≤ z .d) × (z .d ≤ maxInputs)
+
 pub record Ruled (z : Sizes) : Type 0 where
   pub outputLow : 1 ≤ z .m
   pub outputHigh : z .m ≤ 64
@@ -54,7 +62,7 @@ RuledExactly =
     (z : Sizes) → ((badOutput z ≡ false) × ((badInputs z ≡ false) × (badWidths z ≡ false))) ↔ Ruled z
 
 abbrev pub Sound : Sizes → Type 0
-Sound z = ((1 ≤ z .m) × (z .m ≤ 64)) × (z .d ≤ maxInputs)
+Sound z = OutputRuled z × (z .d ≤ maxInputs)
 
 abbrev pub refusedBy : ℕ → Refusal
 refusedBy k = record { number = k; file = 0; step = 0 }

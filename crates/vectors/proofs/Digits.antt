@@ -20,6 +20,13 @@ below-at (u ∷ us) [] i b h = absurd b
 below-at (u ∷ us) (y ∷ ys) zero b h = b .0
 below-at (u ∷ us) (y ∷ ys) (suc i) b h = below-at us ys i (b .1) (omega arith)
 
+-- and values that are make a vector below the axes
+pub below-of : (us x : List ℕ) → length x ≡ length us → ((i : ℕ) → i < length us → getD x i 0 < getD us i 0) → Below us x
+below-of [] [] l h = tt
+below-of [] (y ∷ ys) l h = absurd (omega arith)
+below-of (u ∷ us) [] l h = absurd (omega arith)
+below-of (u ∷ us) (y ∷ ys) l h = (h 0 (omega arith), below-of us ys (omega arith) (λ i g. h (suc i) (omega arith)))
+
 below-set : (us x : List ℕ) (i a : ℕ) → Below us x → a < getD us i 0 → Below us (set x i a)
 below-set [] x i a b h = absurd (omega arith)
 below-set (u ∷ us) [] i a b h = absurd b

@@ -3,7 +3,7 @@
 //! Each wrapper first calls with answer slices of wrong lengths, none, one short and one long, and
 //! asks that the call returns 0 and touches nothing. Then it calls with the right length, asks for
 //! 1, and that nothing was touched but the answer and, where the function writes it, the scratch
-//! slice. An answer that begins with a refusal carries a number that a condition has.
+//! slice. An answer that begins with a refusal carries 0 or a number that a condition has.
 
 use crate::bench::Outcome;
 use crate::lent::{Fence, Lent};

@@ -14,9 +14,9 @@ const AXIS: u64 = 66;
 /// Two lines and a few vectors of a third.
 const LAST: u64 = 2 * AXIS + 5;
 
-/// The least word length with so many values, and the greatest.
 pub fn sessions(bench: &mut Bench) -> Outcome {
     let count = AXIS.pow(INPUTS as u32);
+    // The least word length with so many values, and the greatest.
     for width in [7, 64] {
         let file = |block: Expression| block.file(64, &[width; INPUTS]);
         let sum = || (2..=INPUTS).fold(x(1), |sum, input| sum + x(input));
@@ -36,7 +36,7 @@ pub fn sessions(bench: &mut Bench) -> Outcome {
     Ok(())
 }
 
-/// An equivalent pair, to the end and not so far.
+/// An equivalent pair, to the end and short of it.
 fn equivalent(bench: &mut Bench, files: Files, count: u64) -> Outcome {
     let mut session = bench.start(files)?;
     for left in 1..=LAST {

@@ -25,7 +25,8 @@ use Rattle.session_calls.specs.SessionCalls.{openFits, continueFits, continuing
 use Rattle.sessions.specs.Session.{sameSizes, pairRefusal, opened, continueRefusal}
 use Rattle.sessions.specs.declared.Answer.{Answer}
 use Rattle.sessions.specs.declared.Session.{Session}
-use Rattle.sessions.proofs.Taken.{passed-accepted, carried}
+use Rattle.sessions.proofs.Carried.{passed-accepted, carried}
+use Rattle.sessions.proofs.Cases.{passed}
 use Rattle.sizes.specs.Sizes.{within, badOutput, badInputs, badWidths, refusedBy, accepted}
 use Rattle.sizes.specs.declared.Refusal.{Refusal}
 use Rattle.sizes.specs.declared.Sizes.{Sizes}
@@ -86,7 +87,7 @@ plain-pair s₁ s₂ =
     (plain-cond (not (sameSizes (sizesOf s₁) (sizesOf s₂))) (plain-by 9) (plain-by 0)))
 
 plain-continue : (s₁ s₂ : List ℕ) (σ : Session) (B len : ℕ) → Plain (continueRefusal s₁ s₂ σ B len)
-plain-continue s₁ s₂ σ B len = record { passes = λ e. passed-accepted s₁ s₂ σ B len (ap not (eq-eqb _ 0 e)) }
+plain-continue s₁ s₂ σ B len = record { passes = λ e. passed-accepted s₁ s₂ σ B len (passed s₁ s₂ σ B len (ap not (eq-eqb _ 0 e))) }
 
 plain-opened : (s₁ s₂ : List ℕ) → Plain (opened s₁ s₂ .refusal)
 unfolding opened

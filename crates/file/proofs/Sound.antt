@@ -5,8 +5,9 @@ use Prim.Native.Nat.{ℕ, _+_, _<_}
 use native.Mathlib.Omega.{arith}
 use Rattle.fields.specs.File.{sizesOf, stepCount}
 use Rattle.ranges.proofs.Search.{first-absent}
-use Rattle.sizes.specs.Sizes.{Ruled}
+use Rattle.sizes.specs.Sizes.{Ruled, Sound}
 use Rattle.sizes.specs.declared.Refusal.{Refusal}
+use Rattle.sizes.proofs.Ruled.{ruled-sound}
 use Rattle.file.specs.Accepted.{Accepted, AcceptedExactly}
 use Rattle.file.specs.Check.{faultyAt, faultyStep, headFault, fileNumber}
 use Rattle.file.proofs.Accepted.{accepted}
@@ -27,6 +28,9 @@ module _ (s : List ℕ) (a : Accepted s) where
         widthHigh = a .widthHigh;
         widthUnused = a .widthUnused;
       }
+
+  pub file-sound : Sound (sizesOf s)
+  file-sound = ruled-sound (sizesOf s) file-ruled
 
   head-passes : headFault s ≡ 0
   head-passes = head-ruled s (record { long = a .long; sizes = file-ruled; count = (a .countLow, a .countHigh); size = a .size })

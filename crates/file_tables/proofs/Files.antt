@@ -10,6 +10,7 @@ use lib.IntN.{ℤ, negsuc}
 use lib.ListN.{length, take, drop, length-take, length-drop}
 use lib.Pow.{pow-pos}
 use lib.Seq.{take-all}
+use Rattle.file.proofs.Sound.{file-sound}
 use Rattle.differences.specs.Table.{mixedDifference, listed, tableOf, given}
 use Rattle.differences.proofs.Listed.{length-tabulate, listed-equal, given-listed}
 use Rattle.differences.proofs.Neighbours.{mixed-remainder}
@@ -71,7 +72,7 @@ module _ (s : List ℕ) (a : Accepted s) (z : Sizes) (ez : z ≡ sizesOf s) (g :
 
   pub sizes-sound : Sound z
   unfolding sizesOf
-  sizes-sound = rw ez ((a .outputLow, a .outputHigh), a .inputsHigh)
+  sizes-sound = rw ez (file-sound _ a)
 
   same-size : g .size ≡ gridSize (sizesOf s)
   same-size = grid-size z g eg ∙ ap gridSize ez

@@ -9,6 +9,7 @@ use lib.Seq.{take-at, length-take-le}
 use Rattle.bound.specs.Bound.{maxBound}
 use Rattle.sizes.specs.Sizes.{maxInputs, Sound}
 use Rattle.sizes.specs.declared.Sizes.{Sizes}
+use Rattle.sizes.proofs.Ruled.{ruled-sound}
 use Rattle.grid.specs.Grid.{axesOf, gridSize, gridOf, widthsOf, GridFits}
 use Rattle.grid.specs.declared.Grid.{Grid}
 use Rattle.grid.proofs.Axes.{size-least, size-most, size-fits}
@@ -46,6 +47,7 @@ module _ (z : Sizes) (s : Sound z) where
 pub gridFits : GridFits
 gridFits =
     record {
-      most = λ z r. grid-most z ((r .outputLow, r .outputHigh), r .inputsHigh);
-      fits = λ z r. grid-fits z ((r .outputLow, r .outputHigh), r .inputsHigh);
+      least = λ z r. grid-least z (ruled-sound z r);
+      most = λ z r. grid-most z (ruled-sound z r);
+      fits = λ z r. grid-fits z (ruled-sound z r);
     }

@@ -3,7 +3,8 @@
 --   axesOf z      u_1 to u_d
 --   gridSize z    G, the product of the axes
 --   gridOf z      the axes, with 0 past the last input, and G
---   GridFits      of sizes that 2, 3 and 5 accept, G fits 64 bits. Proved in proofs/Grids:
+--   GridFits      of sizes that 2, 3 and 5 accept, the grid has a vector and G fits 64 bits. Proved in proofs/Grids:
+--     least       G is 1 or more
 --     most        G is at most the largest bound to the power d
 --     fits        so it is below 2^64, with any count of inputs that a file may have
 use mathlib.Core.List.{List, _++_}
@@ -29,5 +30,6 @@ unfoldable pub gridOf : Sizes → Grid
 gridOf z = record { axes = axesOf z ++ replicate (maxInputs - z .d) 0; size = gridSize z }
 
 pub record GridFits : Type 0 where
+  pub least : (z : Sizes) → Ruled z → 1 ≤ gridSize z
   pub most : (z : Sizes) → Ruled z → gridSize z ≤ maxBound ^ z .d
   pub fits : (z : Sizes) → Ruled z → gridSize z < 2 ^ 64

@@ -8,10 +8,11 @@ use lib.ListN.{length, getD, length-map, length-take, length-drop}
 use Rattle.bound.specs.Bound.{maxBound}
 use Rattle.fields.specs.File.{sizesOf}
 use Rattle.file.specs.Accepted.{Accepted}
+use Rattle.file.proofs.Sound.{file-sound}
 use Rattle.grid.specs.Grid.{widthsOf, axesOf, gridSize}
 use Rattle.grid.proofs.Axes.{axes-most}
 use Rattle.grid.proofs.Grids.{grid-least, grid-fits}
-use Rattle.sizes.specs.Sizes.{maxInputs, Sound}
+use Rattle.sizes.specs.Sizes.{maxInputs}
 
 module _ (s : List ℕ) (a : Accepted s) where
   pub length-widths : length (sizesOf s .widths) ≡ maxInputs
@@ -26,11 +27,8 @@ module _ (s : List ℕ) (a : Accepted s) where
   unfolding axesOf
   file-axis-most i = axes-most (sizesOf s .m) (a .outputLow) (a .outputHigh) (widthsOf (sizesOf s)) i
 
-  file-sound : Sound (sizesOf s)
-  file-sound = ((a .outputLow, a .outputHigh), a .inputsHigh)
-
   pub file-grid-least : 1 ≤ gridSize (sizesOf s)
-  file-grid-least = grid-least (sizesOf s) file-sound
+  file-grid-least = grid-least (sizesOf s) (file-sound s a)
 
   pub file-grid-fits : gridSize (sizesOf s) < 2 ^ 64
-  file-grid-fits = grid-fits (sizesOf s) file-sound
+  file-grid-fits = grid-fits (sizesOf s) (file-sound s a)

@@ -1,4 +1,5 @@
 pub mod Calls
+pub mod Carried
 pub mod Cases
 pub mod Demand3
 pub mod FullWidth

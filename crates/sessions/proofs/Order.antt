@@ -23,9 +23,8 @@ use Rattle.sessions.specs.Taken.{CallTaken}
 use Rattle.sessions.specs.declared.Mark.{Mark}
 use Rattle.sessions.specs.declared.Mark.the-variants.{Open, Equal, Differ}
 use Rattle.sessions.specs.declared.Session.{Session}
-use Rattle.sessions.proofs.Pair.{pair-first, pair-second, pair-9, same-equal, comparable}
-use Rattle.sessions.proofs.Step.{same-refl}
-use Rattle.sessions.proofs.Taken.{pair-taken, carried}
+use Rattle.sessions.proofs.Carried.{carried}
+use Rattle.sessions.proofs.Pair.{pair-first, pair-second, pair-9, same-equal, same-refl, pair-taken, comparable}
 
 -- other sizes fail the test
 other-sizes : (z w : Sizes) → length (z .widths) ≡ maxInputs → length (w .widths) ≡ maxInputs → ¬ (z ≡ w) → sameSizes z w ≡ false

@@ -1,12 +1,12 @@
 -- Two files judged together: each answer by the tests that lead to it, and what an accepted pair tells: both files are accepted and have the
 -- same sizes. Assumes nothing.
-use mathlib.Core.Path.{_≡_, refl, sym, _∙_}
+use mathlib.Core.Path.{_≡_, refl, sym, _∙_, ap}
 use mathlib.Core.Bool.{Bool, true, false, not, cond, and-eq-true-iff}
 use mathlib.Core.List.{List}
 use Prim.Native.Nat.{ℕ}
 use native.Mathlib.Omega.{arith}
 use lib.Dec.{eqb}
-use lib.ListN.{length}
+use lib.ListN.{length, getD}
 use lib.Seq.{ext-getD}
 use borrow.Author.Tests.{eq-eqb, ne-eqb, eqb-true, not-false}
 use Rattle.engine.specs.Engine.{Comparable}
@@ -14,8 +14,9 @@ use Rattle.file.specs.Check.{fileNumber, refusalOf}
 use Rattle.fields.specs.File.{sizesOf}
 use Rattle.file.proofs.Accepted.{accepted}
 use Rattle.file.proofs.Number.{refusal-number}
+use Rattle.file.proofs.Sound.{number-0}
 use Rattle.plan.proofs.Axes.{length-widths}
-use Rattle.ranges.proofs.Search.{every-at}
+use Rattle.ranges.proofs.Search.{every-at, every-of}
 use Rattle.sizes.specs.Sizes.{maxInputs, refusedBy, isRefusal}
 use Rattle.sizes.specs.declared.Refusal.{Refusal}
 use Rattle.sizes.specs.declared.Sizes.{Sizes}
@@ -50,6 +51,18 @@ same-equal z w lz lw e =
     ext-getD 0 (z .widths) (w .widths) (lz ∙ sym lw)
     (λ i h. eqb-true _ _ (every-at _ 0 maxInputs i (p .1) (omega arith) (omega arith))) in
     λ i. record { m = eqb-true (z .m) (w .m) (q .0) i; d = eqb-true (z .d) (w .d) (q .1) i; widths = widths i }
+
+-- sizes are the same as themselves
+pub same-refl : (z : Sizes) → sameSizes z z ≡ true
+unfolding sameSizes
+same-refl z =
+    simp (eq-eqb (z .m) (z .m) refl, eq-eqb (z .d) (z .d) refl)
+    (every-of _ 0 maxInputs (λ i _ _. eq-eqb (getD (z .widths) i 0) (getD (z .widths) i 0) refl))
+
+-- comparable files are accepted together
+pub pair-taken : (s₁ s₂ : List ℕ) → Comparable s₁ s₂ → pairRefusal s₁ s₂ ≡ refusedBy 0
+pair-taken s₁ s₂ c =
+    pair-0 s₁ s₂ (number-0 s₁ (c .sound₁)) (number-0 s₂ (c .sound₂)) (ap (sameSizes (sizesOf s₁)) (sym (c .same)) ∙ same-refl (sizesOf s₁))
 
 -- a condition that would refuse doesn't hold where nothing refuses
 pub cond-passed :

@@ -3,7 +3,7 @@
 -- slice is too short or S has reached the stop: a session below the stop is open and at place S, a session at the stop is closed. An
 -- accepted one runs from place S on, to the stop or to the end of its budget, since no place before the first difference differs.
 -- Assumes nothing.
-use mathlib.Core.Path.{_≡_, refl, sym, _∙_}
+use mathlib.Core.Path.{_≡_, refl, sym, _∙_, ap}
 use mathlib.Core.Bool.{true, false, cond}
 use mathlib.Core.Logic.{_⊎_, inl, inr, ⊎-elim, _↔_}
 use mathlib.Core.List.{List}
@@ -11,48 +11,28 @@ use Prim.Native.Nat.{ℕ, _+_, _-_, _<_, _≤_, min}
 use native.Mathlib.Nat.{add-zero, le-refl}
 use native.Mathlib.Decide.{decLt}
 use native.Mathlib.Omega.{arith}
-use lib.Dec.{leb, ltb}
-use lib.ListN.{getD}
+use lib.Dec.{ltb}
 use borrow.Author.Tests.{lt-ltb, le-ltb, le-leb, lt-leb, eq-eqb, ne-eqb}
 use Rattle.engine.specs.Engine.{outputsDiffer, largerCount}
 use Rattle.fields.specs.File.{sizesOf}
 use Rattle.grid.specs.Grid.{axesOf, gridSize}
 use Rattle.places.specs.Places.{vectorAt}
 use Rattle.ranges.specs.Search.{first}
-use Rattle.ranges.proofs.Search.{every-of, first-most, first-found, first-before, first-unique, first-absent, true-or-false}
-use Rattle.sizes.specs.Sizes.{maxInputs, accepted, isRefusal}
+use Rattle.ranges.proofs.Search.{first-most, first-found, first-before, first-unique, first-absent, true-or-false}
+use Rattle.sizes.specs.Sizes.{accepted, isRefusal}
 use Rattle.sizes.specs.declared.Refusal.{Refusal}
-use Rattle.sizes.specs.declared.Sizes.{Sizes}
 use Rattle.grid_theorem.specs.Comparison.{firstDifference}
 use Rattle.sessions.specs.Calls.{Call, answerTo, acceptedBudget, IsRefused, IsVerdict}
 use Rattle.sessions.specs.Demand3.{OwnFiles, firstPlace, stop}
-use Rattle.sessions.specs.Session.{sameSizes, pairRefusal, misplaced, isClosed, stateRefusal, continueRefusal, refusedAnswer, plainAnswer, differsAnswer, progress, advanced, continued}
+use Rattle.sessions.specs.Session.{pairRefusal, misplaced, isClosed, stateRefusal, continueRefusal, refusedAnswer, plainAnswer, differsAnswer, progress, advanced, continued}
 use Rattle.sessions.specs.declared.Answer.{Answer}
 use Rattle.sessions.specs.declared.Continued.{Continued}
 use Rattle.sessions.specs.declared.Mark.{Mark}
 use Rattle.sessions.specs.declared.Mark.the-variants.{Open, Equal, Differ}
 use Rattle.sessions.specs.declared.Kind.the-variants.{Refused, Spent, Equivalent}
 use Rattle.sessions.specs.declared.Session.{Session}
-
--- sizes are the same as themselves
-pub same-refl : (z : Sizes) → sameSizes z z ≡ true
-unfolding sameSizes
-same-refl z =
-    simp (eq-eqb (z .m) (z .m) refl, eq-eqb (z .d) (z .d) refl)
-    (every-of _ 0 maxInputs (λ i _ _. eq-eqb (getD (z .widths) i 0) (getD (z .widths) i 0) refl))
-
--- the answer to an accepted call is no refusal
-pub progress-accepts : (s₁ s₂ : List ℕ) (σ : Session) (B G q : ℕ) → progress s₁ s₂ σ B G q .answer .refusal ≡ accepted
-unfolding progress differsAnswer plainAnswer
-progress-accepts s₁ s₂ σ B G q =
-    ⊎-elim
-    (λ (e : ltb q (σ .position + min B (G - σ .position)) ≡ true). rw e)
-    (λ (e : ltb q (σ .position + min B (G - σ .position)) ≡ false).
-    ⊎-elim
-    (λ (h : leb G (σ .position + B) ≡ true). rw (e, h))
-    (λ (h : leb G (σ .position + B) ≡ false). rw (e, h))
-    (true-or-false (leb G (σ .position + B))))
-    (true-or-false (ltb q (σ .position + min B (G - σ .position))))
+use Rattle.sessions.proofs.Carried.{carried}
+use Rattle.sessions.proofs.Pair.{same-refl}
 
 -- neither refused nor spent is a verdict
 no-verdict : (a : Answer) → (a .kind ≡ Refused) ⊎ (a .kind ≡ Spent) → ¬ IsVerdict a
@@ -72,12 +52,8 @@ module _ (σ : Session) (c : Call) where
 
   -- the answer is a refusal exactly where a condition refuses the call
   pub answer-refusal : isRefusal (answerTo σ c .answer .refusal) ≡ isRefusal refusal
-  unfolding answerTo continued advanced refusedAnswer
-  answer-refusal =
-      ⊎-elim
-      (λ (e : isRefusal refusal ≡ true). rw e e)
-      (λ (e : isRefusal refusal ≡ false). rw e (rw progress-accepts))
-      (true-or-false (isRefusal refusal))
+  unfolding answerTo
+  answer-refusal = ap isRefusal (carried (c .file₁) (c .file₂) σ (c .budget) (c .scratch))
 
 module _ (f₁ f₂ : List ℕ) where
   abbrev G : ℕ

@@ -1,4 +1,5 @@
--- Which calls opening and continuing take, as orders and equations, with no test in them. Each statement is proved in proofs/Taken.
+-- Which calls opening and continuing take, as orders and equations, with no test in them. Each statement is proved in proofs/Taken, but for
+-- FullWidthTaken, which is in proofs/FullWidth.
 --   OpenExactly       opening answers the number 0 exactly where both files are accepted and have the same sizes
 --   FullWidthTaken    of an accepted file, evaluating takes just the full-width vectors, of which demand 3 speaks
 --   CallTaken s₁ s₂ B len   what a continue call asks of all but its session:

@@ -8,7 +8,7 @@ use native.Mathlib.Omega.{arith}
 use lib.ListN.{getD}
 use borrow.Author.Tests.{le-leb, eq-eqb}
 use Rattle.ranges.proofs.Search.{every-of}
-use Rattle.sizes.specs.Sizes.{within, maxInputs, badOutput, badInputs, badWidths, widthRule, OutputRuled, InputsRuled, Ruled, RuledExactly}
+use Rattle.sizes.specs.Sizes.{within, maxInputs, badOutput, badInputs, badWidths, widthRule, OutputRuled, InputsRuled, Ruled, RuledExactly, Sound}
 use Rattle.sizes.specs.declared.Sizes.{Sizes}
 use Rattle.sizes.proofs.Ranges.{output-range, inputs-range, rule-used, rule-unused, width-used, width-unused}
 
@@ -39,6 +39,9 @@ module _ (z : Sizes) where
       }
 
   module _ (r : Ruled z) where
+    pub ruled-sound : Sound z
+    ruled-sound = ((r .outputLow, r .outputHigh), r .inputsHigh)
+
     pub output-passes : badOutput z ≡ false
     output-passes = output-within (r .outputLow, r .outputHigh)
 

@@ -5,6 +5,7 @@ use mathlib.Core.Path.{_∙_, ap}
 use native.Mathlib.Omega.{arith}
 use denote.Ref.{now}
 use lib.ListN.{replicate}
+use Rattle.file.proofs.Sound.{file-sound}
 use Rattle.grid.specs.Grid.{gridSize}
 use Rattle.slices.specs.Slices.{cleared}
 use Rattle.tables.proofs.Fronts.{lent}
@@ -16,7 +17,7 @@ use Rattle.file_tables.proofs.fill_table.Tie as tie
 grid-of-requires : tie.Need-grid-of-requires
 grid-of-requires c κs =
     let a = c .before .before .before .before .before .before .pre .0 in
-    rw (c .before .before .read-sizes .ensures) ((a .outputLow, a .outputHigh), a .inputsHigh)
+    rw (c .before .before .read-sizes .ensures) (file-sound _ a)
 
 fill-outputs-requires : tie.Need-fill-outputs-requires
 fill-outputs-requires c κs =

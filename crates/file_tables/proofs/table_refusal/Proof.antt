@@ -6,6 +6,7 @@ use denote.Ref.{now}
 use Rattle.file.specs.Accepted.{Accepted}
 use Rattle.file.specs.Check.{fileNumber}
 use Rattle.fields.specs.File.{sizesOf}
+use Rattle.file.proofs.Sound.{file-sound}
 use Rattle.file.proofs.Accepted.{accepted}
 use Rattle.file.proofs.Number.{refusal-number}
 use Rattle.grid.specs.Grid.{gridSize}
@@ -45,7 +46,7 @@ read-sizes-requires c κs = rules (c .before .before) .long
 grid-of-requires : tie.Need-grid-of-requires
 grid-of-requires c κs =
     let a = rules (c .before .before .before) in
-    rw (c .read-sizes .ensures) ((a .outputLow, a .outputHigh), a .inputsHigh)
+    rw (c .read-sizes .ensures) (file-sound _ a)
 
 returns-3 : tie.Need-returns-3
 returns-3 c =

@@ -7,6 +7,7 @@ use denote.Ref.{now}
 use borrow.Author.Tests.{eq-eqb, ne-eqb}
 use lib.ListN.{length, length-set, length-take, length-drop}
 use Rattle.file.specs.Check.{fileNumber}
+use Rattle.file.proofs.Sound.{file-sound}
 use Rattle.file.proofs.Accepted.{accepted}
 use Rattle.file.proofs.Number.{refusal-number}
 use Rattle.grid.specs.Grid.{gridOf}
@@ -14,7 +15,6 @@ use Rattle.grid.specs.declared.Grid.{Grid}
 use Rattle.layouts.specs.AnswerWords.{refusalWords}
 use Rattle.sizes.specs.Sizes.{maxInputs}
 use Rattle.sizes.specs.declared.Refusal.{Refusal}
-use Rattle.sizes.specs.declared.Sizes.{Sizes}
 use Rattle.grid_calls.specs.GridCalls.{gridLength, gridAsWords, noGrid}
 use Rattle.grid_calls.proofs.Answered.{refusal-accepted, grid-refused, grid-accepted}
 use Rattle.grid_calls.proofs.Put.{zeros-put, grid-put}
@@ -85,12 +85,7 @@ read-sizes-requires : tie.Need-read-sizes-requires
 read-sizes-requires c κs = accepted _ (passed c) .long
 
 grid-of-requires : tie.Need-grid-of-requires
-grid-of-requires c κs =
-    let a = accepted _ (passed (c .before)) in
-    let z = c .read-sizes .ensures in (
-      (omega (arith, a .outputLow, ap (λ (z : Sizes). z .m) z), omega (arith, a .outputHigh, ap (λ (z : Sizes). z .m) z)),
-      omega (arith, a .inputsHigh, ap (λ (z : Sizes). z .d) z),
-    )
+grid-of-requires c κs = rw (c .read-sizes .ensures) (file-sound _ (accepted _ (passed (c .before))))
 
 slice-aggregate-copy-front : tie.Need-slice-aggregate-copy-front
 slice-aggregate-copy-front c = search needs

@@ -3,6 +3,7 @@
 use mathlib.Core.List.{List}
 use mathlib.Core.Path.{_≡_}
 use Prim.Native.Nat.{ℕ}
+use Rattle.file.proofs.Sound.{file-sound}
 use Rattle.fields.specs.File.{sizesOf, stepCount}
 use Rattle.grid.specs.Grid.{gridOf}
 use Rattle.grid.specs.declared.Grid.{Grid}
@@ -23,7 +24,7 @@ grid-of-requires : tie.Need-grid-of-requires
 grid-of-requires c κs =
     let p = c .before .before .pre in
     let a = p .0 .sound₁ in
-    rw (p .1) ((a .outputLow, a .outputHigh), a .inputsHigh)
+    rw (p .1) (file-sound _ a)
 
 step-count-requires : tie.Need-step-count-requires
 step-count-requires c κs = search needs

@@ -1,11 +1,10 @@
 -- `report_lines::put_grid` meets its contract: the grid's first d axes are the file's, and its size is theirs. Assumes nothing.
-use mathlib.Core.Path.{_≡_, sym, ap}
-use native.Mathlib.Omega.{arith}
+use mathlib.Core.Path.{_≡_, sym}
 use borrow.Author.Needs.{needs}
 use denote.Ref.{now}
 use lib.ListN.{take}
 use lib.Seq.{length-take-le}
-use Rattle.sizes.specs.declared.Sizes.{Sizes}
+use Rattle.file.proofs.Sound.{file-sound}
 use Rattle.printed.specs.Lines.{gridLine}
 use Rattle.printed.specs.Report.{gridText}
 use Rattle.report_lines.proofs.GridLine.{grid-read, axes-long}
@@ -23,12 +22,7 @@ cast-d : tie.Need-cast-d
 cast-d c = search needs
 
 grid-of-requires : tie.Need-grid-of-requires
-grid-of-requires c κs =
-    let a = c .before .before .before .before .pre .0 in
-    let z = c .before .read-sizes .ensures in (
-      (omega (arith, a .outputLow, ap (λ (z : Sizes). z .m) z), omega (arith, a .outputHigh, ap (λ (z : Sizes). z .m) z)),
-      omega (arith, a .inputsHigh, ap (λ (z : Sizes). z .d) z),
-    )
+grid-of-requires c κs = rw (c .before .read-sizes .ensures) (file-sound _ (c .before .before .before .before .pre .0))
 
 slice-aggregate-put-halves : tie.Need-slice-aggregate-put-halves
 slice-aggregate-put-halves c = search needs

@@ -57,7 +57,7 @@
 
 /* The version of this interface: it grows with every change of a function, of a layout or of the
  * refusal numbers. */
-#define CORKBINGO_VERSION 3
+#define CORKBINGO_VERSION 4
 
 /* The stack, in bytes, with which a thread can make every call. */
 #define CORKBINGO_STACK_BYTES 106496
@@ -73,7 +73,7 @@
 /* The lengths of the answers, in words. */
 #define CORKBINGO_CHECK_WORDS 3
 #define CORKBINGO_OPERATIONS_WORDS 2
-#define CORKBINGO_BOUND_WORDS 4
+#define CORKBINGO_BOUND_WORDS 10
 #define CORKBINGO_GRID_WORDS 12
 #define CORKBINGO_EVALUATE_WORDS 4
 #define CORKBINGO_TABLE_WORDS 3
@@ -90,6 +90,11 @@
 #define CORKBINGO_REFUSAL_NUMBER 0
 #define CORKBINGO_REFUSAL_FILE 1
 #define CORKBINGO_REFUSAL_STEP 2
+
+/* Where the words of an answer of corkbingo_bound stand, after the refusal: L(m), and the first of
+ * its six quotients. */
+#define CORKBINGO_BOUND_LEAST 3
+#define CORKBINGO_BOUND_QUOTIENTS 4
 
 /* Where the words of a session stand. */
 #define CORKBINGO_SESSION_M 0
@@ -127,8 +132,10 @@ uint32_t corkbingo_check(const uint8_t *file, size_t file_len, uint64_t *out, si
  * file, 12 and N; 0 and 0 of a refused file, whose number corkbingo_check gives. */
 uint32_t corkbingo_operations(const uint8_t *file, size_t file_len, uint64_t *out, size_t out_len);
 
-/* The bound of an output word length m. Answer, 4 words: the refusal (by 2); L(m), the least
- * number whose factorial is divisible by 2^m. */
+/* The bound of an output word length m. Answer, 10 words: the refusal (by 2); L(m), the least
+ * number whose factorial is divisible by 2^m; L(m) divided by 2, 4, 8, 16, 32 and 64, each rounded
+ * down. The six add up to the exponent of two in the factorial of L(m), which is m or more; those
+ * of L(m) - 1 add up to less than m. */
 uint32_t corkbingo_bound(uint64_t m, uint64_t *out, size_t out_len);
 
 /* The grid of a file. Answer, 12 words: the refusal; u1 to u8, the count of values of each input

@@ -208,7 +208,8 @@ int main(void)
 {
     static const uint64_t checked[CORKBINGO_CHECK_WORDS] = {0, 0, 0};
     static const uint64_t stretch[CORKBINGO_OPERATIONS_WORDS] = {12, 3};
-    static const uint64_t least[CORKBINGO_BOUND_WORDS] = {0, 0, 0, 4};
+    static const uint64_t least[CORKBINGO_BOUND_WORDS] = {0, 0, 0, 18, 9, 4, 2, 1, 0, 0};
+    static const uint64_t no_bound[CORKBINGO_BOUND_WORDS] = {2, 0, 0, 0, 0, 0, 0, 0, 0, 0};
     static const uint64_t grid[CORKBINGO_GRID_WORDS] = {0, 0, 0, 2, 4, 0, 0, 0, 0, 0, 0, 8};
     static const uint64_t output[CORKBINGO_EVALUATE_WORDS] = {0, 0, 0, 3};
     static const uint64_t cleared[4] = {0, 0, 0, 7};
@@ -223,8 +224,13 @@ int main(void)
     returned = corkbingo_operations(sample, sizeof sample, out, CORKBINGO_OPERATIONS_WORDS);
     answer("operations", returned, out, stretch, CORKBINGO_OPERATIONS_WORDS);
 
-    returned = corkbingo_bound(2, out, CORKBINGO_BOUND_WORDS);
+    returned = corkbingo_bound(16, out, CORKBINGO_BOUND_WORDS);
     answer("bound", returned, out, least, CORKBINGO_BOUND_WORDS);
+    same("L(16)", 0, out[CORKBINGO_BOUND_LEAST], 18);
+    same("the first quotient of L(16)", 0, out[CORKBINGO_BOUND_QUOTIENTS], 9);
+
+    returned = corkbingo_bound(65, out, CORKBINGO_BOUND_WORDS);
+    answer("no bound", returned, out, no_bound, CORKBINGO_BOUND_WORDS);
 
     returned = corkbingo_grid(sample, sizeof sample, out, CORKBINGO_GRID_WORDS);
     answer("grid", returned, out, grid, CORKBINGO_GRID_WORDS);

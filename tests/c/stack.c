@@ -89,7 +89,7 @@ static void *by_operations(void *ignored)
 
 static void *by_bound(void *ignored)
 {
-    check("bound", corkbingo_bound(64, out, CORKBINGO_BOUND_WORDS) == 1 && out[3] == 66);
+    check("bound", corkbingo_bound(64, out, CORKBINGO_BOUND_WORDS) == 1 && out[CORKBINGO_BOUND_LEAST] == 66);
     return ignored;
 }
 

@@ -30,13 +30,17 @@ pub fn operations(file: &[u8]) -> [u64; 2] {
     [start as u64, length as u64]
 }
 
-/// Number, file, step, L(m).
-pub fn bound(m: u64) -> [u64; 4] {
+/// Number, file, step, L(m), and L(m) divided by 2, 4, 8, 16, 32 and 64, each rounded down.
+pub fn bound(m: u64) -> [u64; 10] {
+    let mut answer = [0; 10];
     if sound_m(m) {
-        [0, 0, 0, bound::bound(m)]
+        let least = bound::bound(m);
+        answer[3] = least;
+        answer[4..].copy_from_slice(&bound::quotients(least));
     } else {
-        [2, 0, 0, 0]
+        answer[0] = 2;
     }
+    answer
 }
 
 /// Number, file, step, u1 to u8, G.

@@ -15,6 +15,16 @@ pub const BOUNDS: [(u64, u64); 8] = [
     (64, 66),
 ];
 
+/// m, with L(m) and L(m) divided by 2, 4, 8, 16, 32 and 64, each rounded down, worked out by hand.
+pub const FIGURES: [(u64, [u64; 7]); 6] = [
+    (1, [2, 1, 0, 0, 0, 0, 0]),
+    (3, [4, 2, 1, 0, 0, 0, 0]),
+    (16, [18, 9, 4, 2, 1, 0, 0]),
+    (47, [50, 25, 12, 6, 3, 1, 0]),
+    (63, [64, 32, 16, 8, 4, 2, 1]),
+    (64, [66, 33, 16, 8, 4, 2, 1]),
+];
+
 /// The file a.dp: x1·x2 with m 2, n 1 and 2.
 #[rustfmt::skip]
 pub const SAMPLE_A: [u8; 39] = [

@@ -1,19 +1,44 @@
--- The bound L(m) (document 01, 'Output, grid and order'; document 002, SF).
---   IsBound m n   n is the least natural number whose factorial is divisible by 2^m
---   bounds        L(1) to L(64)
---   bound m       L(m), for m from 1 to 64
---   maxBound      the largest of them, L(64)
---   LargestBound  it is, and no other bound is above it. Proved in proofs/Least
---   LeastBound    L(m) is that least number, for every m from 1 to 64. Proved in proofs/Least, by one test over the whole table
+-- The bound L(m) (document 01, 'Output, grid and order'; document 002, SF, and algorithm 1 of its appendix).
+--   IsBound m n    n is the least natural number whose factorial is divisible by 2^m
+--   log2 n         the logarithm of n to base 2, rounded down: the first v with n below 2^(v + 1)
+--   LogTwo         so 2 to its power is at most n, and to the next one is above n. Proved in proofs/Computed
+--   greedy v rem   what algorithm 1 adds to n from ν = v and rem on: the quotient of rem by 2^v − 1, and with the remainder and the next lower ν so on.
+--                  A remainder of 0 adds no more, so that it makes no difference that the algorithm stops there
+--   bound m        L(m), by algorithm 1: from ν = log2 (1 + m) and rem = m on, m + n. For m 1 and 2, which have a line of their own there,
+--                  this gives 2m too
+--   bounds         L(1) to L(64), as a table
+--   maxBound       the largest of them, L(64)
+--   LargestBound   it is, and no other bound is above it. Proved in proofs/Least
+--   LeastBound     L(m) is that least number, for every m from 1 to 64. Proved in proofs/Least, by one test over the whole table
+--   SameBound      for every m from 1 to 64 the three ways to L(m) give the same number. Proved in proofs/Least:
+--     computed     what algorithm 1 computes is the least number whose factorial is divisible by 2^m
+--     only         and no other number is
+--     listed       the entry of m in the table is what algorithm 1 computes
+--     count        and the table has 64 entries
 use mathlib.Core.Path.{_≡_}
 use mathlib.Core.List.{List, [], _∷_}
-use Prim.Native.Nat.{ℕ, _-_, _%_, _^_, _≤_}
-use lib.ListN.{getD}
+use Prim.Native.Nat.{ℕ, zero, suc, _+_, _-_, _/_, _%_, _^_, _≤_, _<_}
+use lib.Dec.{ltb}
+use lib.ListN.{length, getD}
 use Rattle.integers.specs.Modulo.{factorial}
+use Rattle.ranges.specs.Search.{first}
 
 pub record IsBound (m n : ℕ) : Type 0 where
   pub divides : factorial n % 2 ^ m ≡ 0
   pub least : (k : ℕ) → factorial k % 2 ^ m ≡ 0 → n ≤ k
+
+unfoldable pub log2 : ℕ → ℕ
+log2 n = first (λ v. ltb n (2 ^ (v + 1))) 0 n
+
+abbrev pub LogTwo : Type 0
+LogTwo = (n : ℕ) → 1 ≤ n → (2 ^ log2 n ≤ n) × (n < 2 ^ (log2 n + 1))
+
+unfoldable pub greedy : ℕ → ℕ → ℕ
+greedy zero rem = 0
+greedy (suc v) rem = rem / (2 ^ suc v - 1) + greedy v (rem % (2 ^ suc v - 1))
+
+unfoldable pub bound : ℕ → ℕ
+bound m = m + greedy (log2 (1 + m)) m
 
 unfoldable pub bounds : List ℕ
 bounds =
@@ -21,9 +46,6 @@ bounds =
     20 ∷ 20 ∷ 22 ∷ 24 ∷ 24 ∷ 24 ∷ 26 ∷ 28 ∷ 28 ∷ 30 ∷ 32 ∷ 32 ∷ 32 ∷ 32 ∷ 32 ∷ 34 ∷
     36 ∷ 36 ∷ 38 ∷ 40 ∷ 40 ∷ 40 ∷ 42 ∷ 44 ∷ 44 ∷ 46 ∷ 48 ∷ 48 ∷ 48 ∷ 48 ∷ 50 ∷ 52 ∷
     52 ∷ 54 ∷ 56 ∷ 56 ∷ 56 ∷ 58 ∷ 60 ∷ 60 ∷ 62 ∷ 64 ∷ 64 ∷ 64 ∷ 64 ∷ 64 ∷ 64 ∷ 66 ∷ []
-
-unfoldable pub bound : ℕ → ℕ
-bound m = getD bounds (m - 1) 0
 
 abbrev pub maxBound : ℕ
 maxBound = 66
@@ -33,3 +55,9 @@ LargestBound = (maxBound ≡ bound 64) × ((m : ℕ) → 1 ≤ m → m ≤ 64 �
 
 abbrev pub LeastBound : Type 0
 LeastBound = (m : ℕ) → 1 ≤ m → m ≤ 64 → IsBound m (bound m)
+
+pub record SameBound : Type 0 where
+  pub computed : LeastBound
+  pub only : (m n : ℕ) → 1 ≤ m → m ≤ 64 → IsBound m n → n ≡ bound m
+  pub listed : (m : ℕ) → 1 ≤ m → m ≤ 64 → getD bounds (m - 1) 0 ≡ bound m
+  pub count : length bounds ≡ 64

@@ -71,10 +71,28 @@ const BOUNDS: [u64; 64] = [
     66,
 ];
 
-// L(m), for m from 1 to 64.
-pub fn bound(m: u64) -> u64
+// L(m) by the table, for m from 1 to 64.
+pub fn listed_bound(m: u64) -> u64
     requires { ⌜ (1 ≤ m) × (m ≤ 64) ⌝ }
     ensures { λ r. ⌜ r ≡ bound m ⌝ }
 {
     BOUNDS[(m - 1) as usize]
+}
+
+// L(m) by algorithm 1 of document 002, for m from 1 to 64: m and the quotients of what remains of it by 2^v - 1, for v
+// from the logarithm of 1 + m down.
+pub fn bound(m: u64) -> u64
+    requires { ⌜ (1 ≤ m) × (m ≤ 64) ⌝ }
+    ensures { λ r. ⌜ r ≡ bound m ⌝ }
+{
+    let mut rem = m as u32;
+    let mut v = 31 - u32::leading_zeros(1 + rem);
+    let mut n: u32 = 0;
+    while rem != 0 {
+        let a = (1u32 << v) - 1;
+        n = n + rem / a;
+        rem = rem % a;
+        v = v - 1;
+    }
+    m + n as u64
 }

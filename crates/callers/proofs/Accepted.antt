@@ -1,20 +1,24 @@
 -- What a call that returned 1 answers, for a caller in C. The result tells that the layout was right, so that the answer slice holds the
 -- library's answer as words; each law is then read off the words. Demand 2 is the library's, of the slices that the calls wrote. Assumes nothing.
-use mathlib.Core.Bool.{Bool, true, false}
+use mathlib.Core.Bool.{Bool, false}
 use mathlib.Core.List.{List, [], _∷_, _++_, append-assoc}
-use mathlib.Core.Logic.{inl, inr}
 use mathlib.Core.Path.{_≡_, refl, sym, _∙_, ap, subst}
-use Prim.Native.Nat.{ℕ, _+_, _-_, _≤_, _<_}
-use native.Mathlib.Decide.{ℕ-discrete}
+use Prim.Native.Nat.{ℕ, _+_, _-_, _/_, _≤_, _<_}
+use native.Mathlib.Decide.{ℕ-discrete, decLe}
 use native.Mathlib.Omega.{arith}
 use lib.ListN.{length, getD, take, drop, replicate, length-map, length-take, length-append, length-replicate, List·getD-append, List·getD-eq-default}
 use lib.Seq.{take-at, getD-at, getD-drop}
-use borrow.Author.Tests.{eq-eqb, ne-eqb, le-leb}
+use borrow.Author.Tests.{eq-eqb, ne-eqb}
 use Rattle.bound.specs.Bound.{IsBound, bound}
+use Rattle.bound.specs.Quotients.{halvings, Exponents}
 use Rattle.bound.proofs.Least.{leastBound}
+use Rattle.bound.proofs.Quotients.{halvingsListed, boundExponents}
 use Rattle.evaluate.specs.Evaluate.{refusalAt, evaluatedAt, evaluatedScratch}
 use Rattle.evaluate.specs.declared.Evaluated.{Evaluated as Answer}
 use Rattle.evaluate.proofs.Answers.{answer-accepted}
+use Rattle.figures.specs.Figures.{figuresOf, boundAnswered, boundRefused, From1To64}
+use Rattle.figures.specs.declared.Figures.{Figures}
+use Rattle.figures.proofs.Exactly.{figuresExactly}
 use Rattle.file.specs.Accepted.{Accepted}
 use Rattle.file.specs.Check.{fileNumber, refusalOf}
 use Rattle.fields.specs.File.{sizesOf, stepCount}
@@ -23,8 +27,10 @@ use Rattle.file.proofs.Number.{refusal-number}
 use Rattle.file.proofs.Sound.{number-0}
 use Rattle.file_calls.specs.FileCalls.{CheckCall, OperationsCall, EvaluateCall, operationWords, evaluateWords}
 use Rattle.grid.specs.Grid.{axesOf, gridSize, gridOf}
-use Rattle.grid_calls.specs.GridCalls.{BoundCall, GridCall, boundWords, gridWords}
-use Rattle.grid_calls.proofs.Answered.{grid-refused, grid-accepted, bound-refused, bound-accepted}
+use Rattle.grid_calls.specs.GridCalls.{BoundCall, GridCall, figureWords, boundWords, gridWords}
+use Rattle.grid_calls.proofs.Answered.{grid-refused, grid-accepted}
+use Rattle.integers.specs.Exponent.{IsExponent}
+use Rattle.integers.specs.Modulo.{factorial}
 use Rattle.layouts.specs.AnswerWords.{refusalWords, answerWords}
 use Rattle.layouts.specs.Layout.{has, returned, leaves}
 use Rattle.layouts.specs.Lengths.{wordAt}
@@ -32,16 +38,15 @@ use Rattle.layouts.specs.SessionWords.{sessionFrom}
 use Rattle.layouts.specs.SizeWords.{sizeWords, sizesFrom}
 use Rattle.layouts.proofs.Sessions.{file-widths, file-bytes}
 use Rattle.layouts.proofs.Sizes.{sizesAsWords}
-use Rattle.ranges.proofs.Search.{true-or-false}
+use Rattle.lists.specs.Lists.{total}
 use Rattle.session_calls.specs.SessionCalls.{continueFits, continuing, ContinueCall}
 use Rattle.sessions.specs.Calls.{answerTo}
 use Rattle.sessions.specs.Session.{continueRefusal}
 use Rattle.sessions.proofs.Cases.{scratch-accepted as session-scratch}
 use Rattle.sessions.proofs.Step.{answer-refusal}
-use Rattle.sizes.specs.Sizes.{within, accepted, isRefusal}
+use Rattle.sizes.specs.Sizes.{accepted, isRefusal}
 use Rattle.sizes.specs.declared.Refusal.{Refusal}
 use Rattle.sizes.specs.declared.Sizes.{Sizes}
-use Rattle.sizes.proofs.Ranges.{within-range}
 use Rattle.table_calls.specs.TableCalls.{cellsFit, TableCall, DifferenceCall, SumCall}
 use Rattle.cells.specs.Cells.{cellsRefusal}
 use Rattle.cells.proofs.Answers.{passed, at-0, fits}
@@ -51,7 +56,7 @@ use Rattle.file_tables.specs.FileTables.{tableRefusal, madeTable, tableScratch}
 use Rattle.file_tables.proofs.Answers.{made, table-0, table-accepted, scratch-accepted}
 use Rattle.tables.specs.Tables.{differenced, summedUp}
 use Rattle.vectors.proofs.Padded.{padded-entry}
-use Rattle.callers.specs.AcceptedInC.{Checked, Stretched, From1To64, Bounded, Gridded, Evaluated, Tabled, Continued, CellsWritten, SumOfTableInC, DifferenceOfSumInC, SumOfDifferenceInC, AcceptedInC}
+use Rattle.callers.specs.AcceptedInC.{Checked, Stretched, Bounded, Gridded, Evaluated, Tabled, Continued, CellsWritten, SumOfTableInC, DifferenceOfSumInC, SumOfDifferenceInC, AcceptedInC}
 use Rattle.callers.proofs.Refused.{right-told, right-left}
 
 -- what a call that returned 1 wrote
@@ -100,38 +105,44 @@ module _ (f o o′ : List ℕ) (h : OperationsCall f o 1 o′) where
       }
 
 module _ (m : ℕ) (o o′ : List ℕ) (h : BoundCall m o 1 o′) where
-  bound-said : o′ ≡ boundWords m
-  bound-said = wrote (has 4 o) _ o o′ (h .result) (h .out)
+  bound-said : (f : Figures) → figuresOf m ≡ f → o′ ≡ figureWords f
+  unfolding boundWords
+  bound-said f e = wrote (has 10 o) _ o o′ (h .result) (h .out) ∙ ap figureWords e
 
-  inside-said : From1To64 m → o′ ≡ 0 ∷ 0 ∷ 0 ∷ bound m ∷ []
-  inside-said r = bound-said ∙ bound-accepted m (rw (le-leb 1 m (r .low)) (le-leb m 64 (r .high)))
+  inside : From1To64 m → o′ ≡ 0 ∷ 0 ∷ 0 ∷ bound m ∷ halvings (bound m)
+  inside r = bound-said (boundAnswered m) (figuresExactly .inside m r)
 
-  outside-said : within 1 64 m ≡ false → o′ ≡ 2 ∷ 0 ∷ 0 ∷ 0 ∷ []
-  outside-said e = bound-said ∙ bound-refused m e
-
-  inside : within 1 64 m ≡ true → From1To64 m
-  inside e = let p = within-range 1 64 m e in record { low = p .0; high = p .1 }
+  outside : ¬ From1To64 m → o′ ≡ 2 ∷ replicate 9 0
+  outside n = bound-said boundRefused (figuresExactly .outside m n)
 
   in-range : wordAt o′ 0 ≡ 0 → From1To64 m
-  in-range z =
-      elim (true-or-false (within 1 64 m)) [
-        | inl e ↦ inside e
-        | inr e ↦ absurd (omega (arith, z, first (outside-said e)))
-      ]
+  in-range z = elim (decLe 1 m) [
+    | yes low ↦ elim (decLe m 64) [
+      | yes high ↦ record { low = low; high = high }
+      | no n ↦ absurd (omega (arith, z, first (outside (λ r. n (r .high)))))
+    ]
+    | no n ↦ absurd (omega (arith, z, first (outside (λ r. n (r .low)))))
+  ]
 
-  outside : ¬ From1To64 m → o′ ≡ 2 ∷ 0 ∷ 0 ∷ 0 ∷ []
-  outside n =
-      elim (true-or-false (within 1 64 m)) [
-        | inl e ↦ absurd (n (inside e))
-        | inr e ↦ outside-said e
-      ]
+  -- what holds of the bound and of its quotients holds of the words
+  of-words : (P : ℕ → List ℕ → Type 0) → (From1To64 m → P (bound m) (halvings (bound m))) → wordAt o′ 0 ≡ 0 → P (wordAt o′ 3) (drop 4 o′)
+  of-words P p z =
+      let r = in-range z in
+      subst (λ l. P (wordAt l 3) (drop 4 l)) (sym (inside r)) (p r)
+
+  exponents : From1To64 m → Exponents m
+  exponents r = boundExponents m (r .low) (r .high)
 
   bounded : Bounded m o′
   bounded =
       record {
-        range = (in-range, λ r. first (inside-said r));
-        least = λ z. let r = in-range z in
-            subst (IsBound m) (sym (ap (λ l. wordAt l 3) (inside-said r))) (leastBound m (r .low) (r .high));
+        range = (in-range, λ r. first (inside r));
+        least = of-words (λ n q. IsBound m n) (λ r. leastBound m (r .low) (r .high));
+        quotients =
+            of-words (λ n q. q ≡ n / 2 ∷ n / 4 ∷ n / 8 ∷ n / 16 ∷ n / 32 ∷ n / 64 ∷ []) (λ r. halvingsListed (bound m));
+        exponent = of-words (λ n q. IsExponent (factorial n) (total q)) (λ r. exponents r .reached);
+        enough = of-words (λ n q. m ≤ total q) (λ r. exponents r .enough);
+        short = of-words (λ n q. total (halvings (n - 1)) < m) (λ r. exponents r .short);
         outside = outside;
       }
 

@@ -10,6 +10,8 @@ use lib.Dec.{eqb}
 use lib.ListN.{length}
 use borrow.Author.Tests.{eq-eqb, ne-eqb}
 use Rattle.evaluate.specs.Evaluate.{shortScratch, badVector, refusalAt, evaluatedAt}
+use Rattle.figures.specs.Figures.{figuresOf}
+use Rattle.figures.proofs.Exactly.{figures-accepted, figures-refused}
 use Rattle.file.specs.Check.{fileNumber, refusalOf}
 use Rattle.fields.specs.File.{sizesOf, stepCount}
 use Rattle.grid.specs.Grid.{gridSize, gridOf}
@@ -33,7 +35,7 @@ use Rattle.sizes.specs.declared.Sizes.{Sizes}
 use Rattle.table_calls.specs.TableCalls.{cellsFit}
 use Rattle.cells.specs.Cells.{shortSlice, badCells, cellsRefusal}
 use Rattle.file_tables.specs.FileTables.{tableRefusal}
-use Rattle.callers.specs.SaidInC.{Says, boundRefusal, SaidInC}
+use Rattle.callers.specs.SaidInC.{Says, SaidInC}
 use Rattle.callers.proofs.Accepted.{wrote}
 
 -- a refusal with the number 0 is acceptance
@@ -93,8 +95,12 @@ plain-opened : (s₁ s₂ : List ℕ) → Plain (opened s₁ s₂ .refusal)
 unfolding opened
 plain-opened s₁ s₂ = plain-pair s₁ s₂
 
-plain-bound : (m : ℕ) → Plain (boundRefusal m)
-plain-bound m = plain-cond (within 1 64 m) (plain-by 0) (plain-by 2)
+plain-bound : (m : ℕ) → Plain (figuresOf m .refusal)
+plain-bound m =
+    ⊎-elim
+    (λ (e : within 1 64 m ≡ true). rw (figures-accepted m e) (plain-by 0))
+    (λ (e : within 1 64 m ≡ false). rw (figures-refused m e) (plain-by 2))
+    (true-or-false (within 1 64 m))
 
 -- words that begin with a refusal's say it
 says : (q : Refusal) (o rest : List ℕ) → o ≡ refusalWords q ++ rest → Plain q → Says q o
@@ -109,11 +115,6 @@ says q o rest e p =
       no-file = λ z. f ∙ ap (λ (r : Refusal). r .file) (p .passes (sym n ∙ z));
       no-step = λ z. s ∙ ap (λ (r : Refusal). r .step) (p .passes (sym n ∙ z));
     }
-
-bound-begins : (m : ℕ) → boundWords m ≡ refusalWords (boundRefusal m) ++ (wordAt (boundWords m) 3 ∷ [])
-unfolding boundWords
-bound-begins m =
-    ⊎-elim (λ (e : within 1 64 m ≡ true). rw e) (λ (e : within 1 64 m ≡ false). rw e) (true-or-false (within 1 64 m))
 
 -- the words of a grid, accepted or refused
 grid-says : (f o : List ℕ) → o ≡ gridWords f → Says (refusalOf 1 f) o
@@ -144,11 +145,13 @@ continue-says f₁ f₂ B w s a w′ s′ a′ h =
     (plain-continue f₁ f₂ (sessionFrom w) B (length s))
 
 pub saidInC : SaidInC
-unfolding evaluatedAt
+unfolding evaluatedAt boundWords
 saidInC =
     record {
       checking = λ f o o′ h. says (refusalOf 1 f) o′ [] (wrote (has 3 o) _ o o′ (h .result) (h .out)) (plain-file 1 f);
-      bound = λ m o o′ h. says (boundRefusal m) o′ _ (wrote (has 4 o) _ o o′ (h .result) (h .out) ∙ bound-begins m) (plain-bound m);
+      bound = λ m o o′ h.
+          says (figuresOf m .refusal) o′ (figuresOf m .bound ∷ figuresOf m .quotients)
+          (wrote (has 10 o) _ o o′ (h .result) (h .out)) (plain-bound m);
       grid = λ f o o′ h. grid-says f o′ (wrote (has 12 o) _ o o′ (h .result) (h .out));
       evaluating = λ f x s o s′ o′ h.
           says (refusalAt f x (length s)) o′ _ (wrote (has 4 o) _ o o′ (h .result) (h .out)) (plain-at f x (length s));

@@ -89,7 +89,7 @@ takenInC =
     record {
       checking = λ f o r o′ h. takes-out 3 o r (h .result);
       operations = λ f o r o′ h. takes-out 2 o r (h .result);
-      bound = λ m o r o′ h. takes-out 4 o r (h .result);
+      bound = λ m o r o′ h. takes-out 10 o r (h .result);
       grid = λ f o r o′ h. takes-out 12 o r (h .result);
       evaluating = λ f x s o r s′ o′ h. takes-out 4 o r (h .result);
       making = λ f s t o r s′ t′ o′ h. takes-out 3 o r (h .result);

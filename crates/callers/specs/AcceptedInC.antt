@@ -11,7 +11,11 @@
 --   Bounded m o′         of corkbingo_bound:
 --     range        the number word is 0 exactly where m is from 1 to 64
 --     least        where it is 0, word 3 is the least number whose factorial is divisible by 2^m
---     outside      otherwise the number word is 2, and the others are 0
+--     quotients    words 4 to 9 are word 3 divided by 2, 4, 8, 16, 32 and 64, each rounded down
+--     exponent     they add up to the exponent of two in the factorial of word 3
+--     enough       which is m or more
+--     short        the quotients of one less than word 3 add up to less than m
+--     outside      where m is not from 1 to 64 the number word is 2, and the others are 0
 --   Gridded f o′         of corkbingo_grid:
 --     number       the number word is the file's number
 --     axes         where it is 0, the first d words from word 3 on are the axes
@@ -34,20 +38,25 @@
 use mathlib.Core.List.{List, [], _∷_, _++_}
 use mathlib.Core.Logic.{_↔_}
 use mathlib.Core.Path.{_≡_}
-use Prim.Native.Nat.{ℕ, _+_, _≤_, _<_}
+use Prim.Native.Nat.{ℕ, _+_, _-_, _/_, _≤_, _<_}
 use lib.ListN.{length, take, drop, replicate}
 use Rattle.bound.specs.Bound.{IsBound}
+use Rattle.bound.specs.Quotients.{halvings}
 use Rattle.differences.specs.Table.{listed}
 use Rattle.engine.specs.Engine.{largerCount}
 use Rattle.evaluate.specs.Evaluate.{outputOf}
+use Rattle.figures.specs.Figures.{From1To64}
 use Rattle.file.specs.Accepted.{Accepted}
 use Rattle.file.specs.Check.{fileNumber}
 use Rattle.fields.specs.File.{sizesOf, stepCount}
 use Rattle.file_calls.specs.FileCalls.{CheckCall, OperationsCall, EvaluateCall}
 use Rattle.grid.specs.Grid.{axesOf, gridSize}
 use Rattle.grid_calls.specs.GridCalls.{BoundCall, GridCall}
+use Rattle.integers.specs.Exponent.{IsExponent}
+use Rattle.integers.specs.Modulo.{factorial}
 use Rattle.layouts.specs.Lengths.{wordAt}
 use Rattle.layouts.specs.SizeWords.{sizeWords, sizesFrom}
+use Rattle.lists.specs.Lists.{total}
 use Rattle.session_calls.specs.SessionCalls.{ContinueCall}
 use Rattle.sizes.specs.declared.Sizes.{Sizes}
 use Rattle.table_calls.specs.TableCalls.{TableCall, DifferenceCall, SumCall}
@@ -62,15 +71,14 @@ pub record Stretched (f o′ : List ℕ) : Type 0 where
   pub count : fileNumber f ≡ 0 → wordAt o′ 1 ≡ stepCount f
   pub none : ¬ (fileNumber f ≡ 0) → o′ ≡ 0 ∷ 0 ∷ []
 
--- m is an output word length
-pub record From1To64 (m : ℕ) : Type 0 where
-  pub low : 1 ≤ m
-  pub high : m ≤ 64
-
 pub record Bounded (m : ℕ) (o′ : List ℕ) : Type 0 where
   pub range : (wordAt o′ 0 ≡ 0) ↔ From1To64 m
   pub least : wordAt o′ 0 ≡ 0 → IsBound m (wordAt o′ 3)
-  pub outside : ¬ From1To64 m → o′ ≡ 2 ∷ 0 ∷ 0 ∷ 0 ∷ []
+  pub quotients : wordAt o′ 0 ≡ 0 → let n = wordAt o′ 3 in drop 4 o′ ≡ n / 2 ∷ n / 4 ∷ n / 8 ∷ n / 16 ∷ n / 32 ∷ n / 64 ∷ []
+  pub exponent : wordAt o′ 0 ≡ 0 → IsExponent (factorial (wordAt o′ 3)) (total (drop 4 o′))
+  pub enough : wordAt o′ 0 ≡ 0 → m ≤ total (drop 4 o′)
+  pub short : wordAt o′ 0 ≡ 0 → total (halvings (wordAt o′ 3 - 1)) < m
+  pub outside : ¬ From1To64 m → o′ ≡ 2 ∷ replicate 9 0
 
 pub record Gridded (f o′ : List ℕ) : Type 0 where
   pub number : wordAt o′ 0 ≡ fileNumber f

@@ -2,13 +2,12 @@
 -- refused by, and 0 where it is accepted. It is proved in proofs/Said, as saidInC. The parameters are those of the contracts. The answers of
 -- corkbingo_operations and corkbingo_report have no refusal words.
 --   Says q o        the words o begin with number, file and step of the refusal q; if the number is 0, so are file and step
---   boundRefusal m  2 where m is not from 1 to 64
-use mathlib.Core.Bool.{cond}
 use mathlib.Core.List.{List}
 use mathlib.Core.Path.{_≡_}
 use Prim.Native.Nat.{ℕ}
 use lib.ListN.{length}
 use Rattle.evaluate.specs.Evaluate.{refusalAt}
+use Rattle.figures.specs.Figures.{figuresOf}
 use Rattle.file.specs.Check.{refusalOf}
 use Rattle.file_calls.specs.FileCalls.{CheckCall, EvaluateCall}
 use Rattle.grid_calls.specs.GridCalls.{BoundCall, GridCall}
@@ -17,7 +16,6 @@ use Rattle.layouts.specs.SessionWords.{sessionFrom}
 use Rattle.layouts.specs.SizeWords.{sizesFrom}
 use Rattle.session_calls.specs.SessionCalls.{OpenCall, ContinueCall}
 use Rattle.sessions.specs.Session.{opened, continueRefusal}
-use Rattle.sizes.specs.Sizes.{within, refusedBy, accepted}
 use Rattle.sizes.specs.declared.Refusal.{Refusal}
 use Rattle.table_calls.specs.TableCalls.{TableCall, DifferenceCall, SumCall}
 use Rattle.cells.specs.Cells.{cellsRefusal}
@@ -30,12 +28,9 @@ pub record Says (q : Refusal) (o : List ℕ) : Type 0 where
   pub no-file : wordAt o 0 ≡ 0 → wordAt o 1 ≡ 0
   pub no-step : wordAt o 0 ≡ 0 → wordAt o 2 ≡ 0
 
-abbrev pub boundRefusal : ℕ → Refusal
-boundRefusal m = cond (within 1 64 m) accepted (refusedBy 2)
-
 pub record SaidInC : Type 0 where
   pub checking : (f o o′ : List ℕ) → CheckCall f o 1 o′ → Says (refusalOf 1 f) o′
-  pub bound : (m : ℕ) (o o′ : List ℕ) → BoundCall m o 1 o′ → Says (boundRefusal m) o′
+  pub bound : (m : ℕ) (o o′ : List ℕ) → BoundCall m o 1 o′ → Says (figuresOf m .refusal) o′
   pub grid : (f o o′ : List ℕ) → GridCall f o 1 o′ → Says (refusalOf 1 f) o′
   pub evaluating : (f x s o s′ o′ : List ℕ) → EvaluateCall f x s o 1 s′ o′ → Says (refusalAt f x (length s)) o′
   pub making : (f s t o s′ t′ o′ : List ℕ) → TableCall f s t o 1 s′ t′ o′ → Says (tableRefusal f (length s) (length t)) o′

@@ -51,7 +51,7 @@ pub record ReportLaid (a t o : List ℕ) : Type 0 where
 pub record TakenInC : Type 0 where
   pub checking : (f o : List ℕ) (r : ℕ) (o′ : List ℕ) → CheckCall f o r o′ → Takes r (length o ≡ 3)
   pub operations : (f o : List ℕ) (r : ℕ) (o′ : List ℕ) → OperationsCall f o r o′ → Takes r (length o ≡ 2)
-  pub bound : (m : ℕ) (o : List ℕ) (r : ℕ) (o′ : List ℕ) → BoundCall m o r o′ → Takes r (length o ≡ 4)
+  pub bound : (m : ℕ) (o : List ℕ) (r : ℕ) (o′ : List ℕ) → BoundCall m o r o′ → Takes r (length o ≡ 10)
   pub grid : (f o : List ℕ) (r : ℕ) (o′ : List ℕ) → GridCall f o r o′ → Takes r (length o ≡ 12)
   pub evaluating :
       (f x s o : List ℕ) (r : ℕ) (s′ o′ : List ℕ) → EvaluateCall f x s o r s′ o′ → Takes r (length o ≡ 4)

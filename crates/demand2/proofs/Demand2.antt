@@ -14,7 +14,7 @@ use Rattle.cells.specs.Taken.{Fitting}
 use Rattle.cells.proofs.Answers.{passed, fits, at-0}
 use Rattle.differences.specs.Statement.{Cells}
 use Rattle.differences.specs.Table.{mixedDifference, listed, tableOf, given, sumBelow, summed}
-use Rattle.differences.proofs.Listed.{length-tabulate, getD-tabulate}
+use Rattle.lists.proofs.Tabulate.{length-tabulate, getD-tabulate}
 use Rattle.differences.proofs.Tables.{sumOfDifferences, differencesOfSum}
 use Rattle.fields.specs.File.{sizesOf}
 use Rattle.fields.specs.Steps.{stepsOf}

@@ -17,7 +17,8 @@ use Rattle.differences.specs.Statement.{Cells, SumOfTable, SumOfDifferen
 use Rattle.differences.proofs.Neighbours.{mixed-undo, mixed-remainder}
 use Rattle.differences.proofs.Binomials.{differences-combined}
 use Rattle.differences.proofs.Sums.{sum-mixed}
-use Rattle.differences.proofs.Listed.{tabulate-unique, listed-equal, given-listed}
+use Rattle.differences.proofs.Listed.{listed-equal, given-listed}
+use Rattle.lists.proofs.Tabulate.{tabulate-unique}
 
 pub difference-mixed : (ks : List ℕ) (F : List ℕ → ℤ) → mixedDifference ks F ≡ mixed (negsuc 0) ks F
 unfolding mixedDifference mixed

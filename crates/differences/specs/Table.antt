@@ -3,7 +3,6 @@
 --   mixedDifference ks F   the k-fold forward difference of F at the zero vector: the difference for each input in turn, k_i times
 --   choose n k             the binomial (n choose k)
 --   binomials xs ks        the product of the binomials (x_i choose k_i)
---   tabulate f j n         the list of f at the n numbers from j on
 --   listed us f            f at every vector of the grid, in the order of their places
 --   tableOf M us F         the difference table of F: cell k holds the k-fold difference at the zero vector, modulo M
 --   given us ys            the function on the grid whose values, in the order of the places, are ys
@@ -13,6 +12,7 @@ use Prim.Native.Nat.{ℕ, zero, suc, _+_, _*_, _%_}
 use lib.IntN.{ℤ, pos}
 use lib.ListN.{getD}
 use Rattle.integers.specs.Modulo.{remainder}
+use Rattle.lists.specs.Lists.{tabulate}
 use Rattle.newton.specs.Difference.{differences}
 use Rattle.places.specs.Places.{size, vectorAt, placeOf}
 
@@ -30,10 +30,6 @@ binomials [] [] = 1
 binomials [] (k ∷ ks) = 1
 binomials (x ∷ xs) [] = 1
 binomials (x ∷ xs) (k ∷ ks) = choose x k * binomials xs ks
-
-unfoldable pub tabulate : {A : Type 0} → (ℕ → A) → ℕ → ℕ → List A
-tabulate f j zero = []
-tabulate f j (suc n) = f j ∷ tabulate f (j + 1) n
 
 abbrev pub listed : {A : Type 0} → List ℕ → (List ℕ → A) → List A
 listed us f = tabulate (λ (p : ℕ). f (vectorAt us p)) 0 (size us)

@@ -44,7 +44,8 @@ pub extern "C" fn corkbingo_operations(file: &[u8], out: &mut [u64]) -> u32
     operations_call(file, out)
 }
 
-// The bound L(m): out gets the refusal, by 2 where m is not 1 to 64, and L(m).
+// The bound L(m): out gets the refusal, by 2 where m is not 1 to 64, and L(m) with its quotients by 2, 4, 8, 16, 32
+// and 64.
 #[no_mangle]
 pub extern "C" fn corkbingo_bound(m: u64, out: &mut [u64]) -> u32
     ensures { λ r. ⌜ BoundCall m (now (out .entry)) r (now (out .exit)) ⌝ }

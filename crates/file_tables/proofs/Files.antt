@@ -12,7 +12,8 @@ use lib.Pow.{pow-pos}
 use lib.Seq.{take-all}
 use Rattle.file.proofs.Sound.{file-sound}
 use Rattle.differences.specs.Table.{mixedDifference, listed, tableOf, given}
-use Rattle.differences.proofs.Listed.{length-tabulate, listed-equal, given-listed}
+use Rattle.differences.proofs.Listed.{listed-equal, given-listed}
+use Rattle.lists.proofs.Tabulate.{length-tabulate}
 use Rattle.differences.proofs.Neighbours.{mixed-remainder}
 use Rattle.differences.proofs.Tables.{difference-mixed, sumOfTable}
 use Rattle.evaluate.specs.Evaluate.{outputOf}

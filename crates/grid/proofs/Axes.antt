@@ -1,12 +1,10 @@
 -- The axes of a grid: none is above the largest bound, so as many as a file may have inputs give fewer than 2^64 vectors.
-use mathlib.Core.Path.{_≡_}
 use mathlib.Core.List.{List, [], _∷_}
 use Prim.Native.Nat.{ℕ, zero, suc, _^_, _≤_, _<_}
-use native.Mathlib.Nat.{le-trans, le-refl, mul-le-mul, pow-succ', pow-le-pow-right, min-eq-right, min-le-right, le-min, one-le-mul, one-le-pow}
+use native.Mathlib.Nat.{le-trans, le-refl, mul-le-mul, pow-succ', pow-le-pow-right, min-le-right, le-min, one-le-mul, one-le-pow}
 use native.Mathlib.Omega.{arith}
 use lib.Dec.{lit≤, lit<}
 use lib.ListN.{length, getD}
-use lib.Pow.{pow-mono}
 use Rattle.bound.specs.Axes.{axis, axes}
 use Rattle.bound.specs.Bound.{bound, maxBound}
 use Rattle.bound.proofs.Least.{bound-least, bound-most}
@@ -17,10 +15,6 @@ module _ (m : ℕ) (low : 1 ≤ m) (high : m ≤ 64) where
   pub axis-most : (n : ℕ) → axis m n ≤ maxBound
   unfolding axis
   axis-most n = le-trans (min-le-right (2 ^ n) (bound m)) (bound-most m low high)
-
-  pub axis-wide : (n : ℕ) → 7 ≤ n → axis m n ≡ bound m
-  unfolding axis
-  axis-wide n h = min-eq-right (omega (arith, bound-most m low high, pow-mono h))
 
   -- so no axis of a grid is
   pub axes-most : (ns : List ℕ) (i : ℕ) → getD (axes m ns) i 0 ≤ maxBound

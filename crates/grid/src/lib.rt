@@ -3,8 +3,8 @@ use bound::bound;
 use sizes::INPUTS;
 use sizes::Sizes;
 ghost use mathlib.Core.Path.{_≡_};
-ghost use Prim.Native.Nat.{_≤_};
-ghost use Rattle.bound.specs.Axes.{axis};
+ghost use Prim.Native.Nat.{min, _≤_};
+ghost use Rattle.bound.specs.Axes.{range};
 ghost use Rattle.bound.specs.Bound.{maxBound};
 ghost use Rattle.sizes.specs.Sizes.{Sound};
 ghost use Rattle.grid.specs.Grid.{gridOf};
@@ -15,12 +15,11 @@ pub struct Grid {
     pub size: u64,
 }
 
-// The smaller of 2^n and L(m). From n = 7 on 2^n is above every bound.
-fn axis(m: u64, n: u64) -> u64
-    requires { ⌜ (1 ≤ m) × (m ≤ 64) ⌝ }
-    ensures { λ r. ⌜ (r ≡ axis m n) × (r ≤ maxBound) ⌝ }
+// The smaller of 2^n and a bound. From n = 7 on 2^n is above every bound.
+fn axis(most: u64, n: u64) -> u64
+    requires { ⌜ most ≤ maxBound ⌝ }
+    ensures { λ r. ⌜ (r ≡ min (range n) most) × (r ≤ maxBound) ⌝ }
 {
-    let most = bound(m);
     if 7 <= n {
         return most;
     }
@@ -35,13 +34,14 @@ pub fn grid_of(z: Sizes) -> Grid
     ensures { λ r. ⌜ r ≡ gridOf z ⌝ }
 {
     let m = z.m as u64;
+    let most = bound(m);
     let d = z.d as usize;
     let widths = z.widths;
     let mut axes = [0u64; INPUTS];
     let mut size: u64 = 1;
     let mut i = 0;
     while i < d {
-        let u = axis(m, widths[i] as u64);
+        let u = axis(most, widths[i] as u64);
         axes[i] = u;
         size = size * u;
         i += 1;

@@ -1,16 +1,13 @@
--- The words of the answers about bounds and grids, by their cases. Assumes nothing.
+-- The words of the answers about grids, by their cases. Assumes nothing.
 use mathlib.Core.Path.{_≡_}
-use mathlib.Core.Bool.{true, false}
 use mathlib.Core.List.{List, [], _∷_, _++_}
 use Prim.Native.Nat.{ℕ}
 use borrow.Author.Tests.{eq-eqb, ne-eqb}
-use Rattle.bound.specs.Bound.{bound}
 use Rattle.file.specs.Check.{fileNumber, refusalOf}
 use Rattle.fields.specs.File.{sizesOf}
 use Rattle.grid.specs.Grid.{gridOf}
 use Rattle.layouts.specs.AnswerWords.{refusalWords}
-use Rattle.sizes.specs.Sizes.{within}
-use Rattle.grid_calls.specs.GridCalls.{boundWords, gridAsWords, noGrid, gridWords}
+use Rattle.grid_calls.specs.GridCalls.{gridAsWords, noGrid, gridWords}
 
 module _ (s : List ℕ) where
   -- the refusal of an accepted file
@@ -25,11 +22,3 @@ module _ (s : List ℕ) where
   pub grid-accepted : fileNumber s ≡ 0 → gridWords s ≡ 0 ∷ 0 ∷ 0 ∷ gridAsWords (gridOf (sizesOf s))
   unfolding gridWords
   grid-accepted e = rw (eq-eqb (fileNumber s) 0 e)
-
-pub bound-refused : (m : ℕ) → within 1 64 m ≡ false → boundWords m ≡ 2 ∷ 0 ∷ 0 ∷ 0 ∷ []
-unfolding boundWords
-bound-refused m e = rw e
-
-pub bound-accepted : (m : ℕ) → within 1 64 m ≡ true → boundWords m ≡ 0 ∷ 0 ∷ 0 ∷ bound m ∷ []
-unfolding boundWords
-bound-accepted m e = rw e

@@ -2,7 +2,7 @@
 -- returns, and this slice at exit (with a ′): output word length m, file f, answer slice o.
 --   BoundCall     bound_call
 --   GridCall      grid_call
---   boundWords m  the refusal (2: m is not 1 to 64), and L(m), 0 in a refusal
+--   boundWords m  the refusal (2: m is not 1 to 64), L(m), and L(m) divided by 2, 4, 8, 16, 32 and 64; all 0 in a refusal
 --   gridWords s   the file's refusal, the axes (0 past d), and G; all 0 in a refusal
 --   boundLength, gridLength   how many words these have
 -- The fields of the records:
@@ -15,7 +15,8 @@ use mathlib.Core.Path.{_≡_}
 use Prim.Native.Nat.{ℕ, _+_}
 use lib.Dec.{eqb}
 use lib.ListN.{replicate}
-use Rattle.bound.specs.Bound.{bound}
+use Rattle.figures.specs.Figures.{figuresOf}
+use Rattle.figures.specs.declared.Figures.{Figures}
 use Rattle.file.specs.Check.{fileNumber, refusalOf}
 use Rattle.fields.specs.File.{sizesOf}
 use Rattle.grid.specs.Grid.{gridOf}
@@ -23,13 +24,17 @@ use Rattle.grid.specs.declared.Grid.{Grid}
 use Rattle.layouts.specs.AnswerWords.{refusalWords}
 use Rattle.layouts.specs.Layout.{has, returned, leaves}
 use Rattle.layouts.specs.Lengths.{refusalLength}
-use Rattle.sizes.specs.Sizes.{maxInputs, within, refusedBy, accepted}
+use Rattle.sizes.specs.Sizes.{maxInputs, accepted}
 
 abbrev pub boundLength : ℕ
-boundLength = refusalLength + 1
+boundLength = refusalLength + 7
+
+-- the words of figures
+abbrev pub figureWords : Figures → List ℕ
+figureWords f = refusalWords (f .refusal) ++ (f .bound ∷ f .quotients)
 
 unfoldable pub boundWords : ℕ → List ℕ
-boundWords m = cond (within 1 64 m) (refusalWords accepted ++ (bound m ∷ [])) (refusalWords (refusedBy 2) ++ (0 ∷ []))
+boundWords m = figureWords (figuresOf m)
 
 pub record BoundCall (m : ℕ) (o : List ℕ) (r : ℕ) (o′ : List ℕ) : Type 0 where
   pub result : r ≡ returned (has boundLength o)

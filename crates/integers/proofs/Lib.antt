@@ -1,3 +1,5 @@
 pub mod Divisibility
+pub mod Exponent
+pub mod Legendre
 pub mod Remainder
 pub mod Ring

@@ -1,1 +1,2 @@
+pub mod Exponent
 pub mod Modulo

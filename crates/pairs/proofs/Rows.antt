@@ -9,7 +9,7 @@ use native.Mathlib.Omega.{arith}
 use lib.IntN.{ℤ}
 use lib.ListN.{length, getD}
 use Rattle.bound.specs.Axes.{axis}
-use Rattle.bound.specs.Bound.{bound, bounds}
+use Rattle.bound.specs.Bound.{bound, log2, greedy}
 use Rattle.engine.specs.Engine.{outputsDiffer}
 use Rattle.evaluate.specs.Evaluate.{outputOf}
 use Rattle.file.specs.Check.{fileNumber, shownStep, refusalOf, tooShort, badCount, badLength, badOperation, operandsRule, argumentRule, badArgument, stepFault, faultyAt, faultyStep, headFault}
@@ -75,7 +75,7 @@ unfolding found claimed
     refusalOf shownStep fileNumber headFault tooShort badOutput badInputs badCount badWidths widthRule badLength
     faultyStep faultyAt stepFault badOperation badArgument argumentRule operandsRule
     sizesOf stepCount operation argument little stepsOf stepsFrom stepAt decoded
-    axesOf gridSize axis bound bounds size vectorAt
+    axesOf gridSize axis bound log2 greedy size vectorAt
     every first firstDifference differsAt output exact values stepValue remainder
 all-found = refl
 

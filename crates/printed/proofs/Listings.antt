@@ -1,7 +1,7 @@
 -- The texts of the tables are what is printed: one test over each whole table computes them.
 use mathlib.Core.Path.{refl}
 use Rattle.bound.specs.Axes.{axis}
-use Rattle.bound.specs.Bound.{bound, bounds}
+use Rattle.bound.specs.Bound.{bound, log2, greedy}
 use Rattle.evaluate.specs.Evaluate.{outputOf}
 use Rattle.file.specs.Check.{fileNumber, shownStep, refusalOf, tooShort, badCount, badLength, badOperation, operandsRule, argumentRule, badArgument, stepFault, faultyAt, faultyStep, headFault}
 use Rattle.fields.specs.File.{sizesOf, stepCount, operation, argument}
@@ -30,7 +30,7 @@ unfolding listingTable refusedTable a·dp b·dp
     refusalOf shownStep fileNumber headFault tooShort badOutput badInputs badCount badWidths widthRule badLength
     faultyStep faultyAt stepFault badOperation badArgument argumentRule operandsRule
     sizesOf stepCount operation argument little stepsOf stepsFrom stepAt decoded
-    axesOf gridSize axis bound bounds size vectorAt
+    axesOf gridSize axis bound log2 greedy size vectorAt
     every first firstDifference differsAt output exact values stepValue remainder
 computed = (refl, refl)
 

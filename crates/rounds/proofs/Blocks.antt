@@ -10,7 +10,7 @@ use lib.IntN.{ℤ, pos}
 use lib.ListN.{length, getD, take, drop, length-append, drop-of-length-le, List·getD-append}
 use lib.Pow.{pow-pos}
 use lib.Seq.{length-take-le, take-all, take-at, drop-at, take-add, drop-drop, getD-append-add}
-use Rattle.differences.specs.Table.{tabulate}
+use Rattle.lists.specs.Lists.{tabulate}
 use Rattle.differences.proofs.Neighbours.{combined-remainder}
 use Rattle.words.specs.Words.{word}
 use Rattle.rounds.specs.Passes.{lines, column, whole, passed}

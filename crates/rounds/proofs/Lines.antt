@@ -9,7 +9,7 @@ use lib.Arith.{digits-div, digits-mod}
 use lib.IntN.{ℤ}
 use lib.ListN.{length, getD}
 use lib.Seq.{ext-getD}
-use Rattle.differences.proofs.Listed.{length-tabulate, getD-tabulate}
+use Rattle.lists.proofs.Tabulate.{length-tabulate, getD-tabulate}
 use Rattle.words.specs.Words.{word}
 use Rattle.rounds.specs.Passes.{cell, lines, column}
 

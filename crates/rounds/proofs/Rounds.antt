@@ -13,7 +13,7 @@ use lib.Pow.{pow-pos}
 use borrow.Author.Tests.{lt-ltb, le-ltb}
 use Rattle.differences.specs.Neighbours.{combined}
 use Rattle.differences.proofs.Neighbours.{combined-suc, join-remainder}
-use Rattle.differences.proofs.Listed.{length-tabulate, getD-tabulate}
+use Rattle.lists.proofs.Tabulate.{length-tabulate, getD-tabulate}
 use Rattle.words.specs.Words.{word}
 use Rattle.words.proofs.Congruence.{word-pos, word-most}
 use Rattle.rounds.specs.Passes.{cell, rounded, lines, column, whole, partly, passed}

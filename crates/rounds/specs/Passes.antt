@@ -14,7 +14,7 @@ use lib.Dec.{ltb}
 use lib.IntN.{ℤ, pos, negsuc, _+ℤ_, _*ℤ_}
 use lib.ListN.{length, getD}
 use Rattle.differences.specs.Neighbours.{combined}
-use Rattle.differences.specs.Table.{tabulate}
+use Rattle.lists.specs.Lists.{tabulate}
 use Rattle.words.specs.Words.{word}
 
 abbrev pub factor : Bool → ℤ

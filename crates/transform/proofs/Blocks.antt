@@ -12,7 +12,7 @@ use lib.Seq.{getD-drop}
 use Rattle.places.specs.Places.{size, vectorAt, placeOf}
 use Rattle.differences.specs.Neighbours.{mixed}
 use Rattle.differences.specs.Table.{listed, given}
-use Rattle.differences.proofs.Listed.{length-tabulate, getD-tabulate, tabulate-unique}
+use Rattle.lists.proofs.Tabulate.{length-tabulate, getD-tabulate, tabulate-unique}
 use Rattle.words.specs.Words.{word}
 use Rattle.words.proofs.Congruence.{word-pos}
 use Rattle.rounds.specs.Passes.{column, whole, passed}

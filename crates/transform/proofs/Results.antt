@@ -7,7 +7,8 @@ use lib.IntN.{ℤ, pos, negsuc}
 use Rattle.integers.specs.Modulo.{remainder}
 use Rattle.places.specs.Places.{size, vectorAt}
 use Rattle.differences.specs.Neighbours.{mixed}
-use Rattle.differences.specs.Table.{mixedDifference, tabulate, listed, tableOf, given, sumBelow, summed}
+use Rattle.differences.specs.Table.{mixedDifference, listed, tableOf, given, sumBelow, summed}
+use Rattle.lists.specs.Lists.{tabulate}
 use Rattle.differences.proofs.Listed.{listed-equal}
 use Rattle.differences.proofs.Tables.{difference-mixed, sum-remainder}
 use Rattle.words.specs.Words.{word}

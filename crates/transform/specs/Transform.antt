@@ -8,7 +8,8 @@ use lib.IntN.{ℤ}
 use lib.ListN.{length, drop}
 use Rattle.places.specs.Places.{size, vectorAt}
 use Rattle.differences.specs.Neighbours.{mixed}
-use Rattle.differences.specs.Table.{tabulate, tableOf, given, summed}
+use Rattle.differences.specs.Table.{tableOf, given, summed}
+use Rattle.lists.specs.Lists.{tabulate}
 use Rattle.words.specs.Words.{word}
 
 unfoldable pub blockwise : ℤ → List ℕ → List ℕ → List ℕ

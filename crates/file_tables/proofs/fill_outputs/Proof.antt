@@ -9,7 +9,7 @@ use borrow.Author.Needs.{needs}
 use lib.ListN.{length, getD, take, drop, set}
 use lib.Seq.{take-all}
 use Rattle.differences.specs.Table.{listed}
-use Rattle.differences.proofs.Listed.{length-tabulate, getD-tabulate}
+use Rattle.lists.proofs.Tabulate.{length-tabulate, getD-tabulate}
 use Rattle.evaluate.specs.Evaluate.{outputOf}
 use Rattle.evaluate.proofs.Words.{output-entries}
 use Rattle.evaluate.specs.Run.{Ready}

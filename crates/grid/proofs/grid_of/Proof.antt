@@ -3,11 +3,12 @@
 use borrow.Author.Needs.{needs}
 use mathlib.Core.Path.{_≡_, refl, sym, _∙_, ap, ap₂, subst}
 use mathlib.Core.List.{List, _++_, map}
-use Prim.Native.Nat.{ℕ, suc, _+_, _*_, _-_, _^_, _≤_, _<_}
+use Prim.Native.Nat.{ℕ, suc, _+_, _*_, _-_, _^_, _≤_, _<_, min}
 use native.Mathlib.Omega.{arith}
 use lib.ListN.{length, getD, take, drop, set, replicate, length-map, length-take, length-replicate}
 use lib.Seq.{length-take-le}
-use Rattle.bound.specs.Axes.{axis}
+use Rattle.bound.specs.Axes.{range, axis}
+use Rattle.bound.proofs.Least.{bound-most}
 use Rattle.grid.specs.Grid.{gridOf, gridSize, axesOf}
 use Rattle.grid.proofs.Axes.{size-fits}
 use Rattle.lists.proofs.Lists.{set-front, map-take}
@@ -26,11 +27,11 @@ record Filled (m d : ℕ) (widths axes : List ℕ) (size i : ℕ) : Type 0 where
   sized : size ≡ Places.size (map (axis m) (take i widths))
 
 abbrev Inv-loop : tie.InvT-loop
-Inv-loop m d widths axes₀ size₀ i₀ axes size i =
+Inv-loop m most d widths axes₀ size₀ i₀ axes size i =
     Filled m d widths axes size i
 
 abbrev μ-loop : tie.MeasureT-loop
-μ-loop m d widths axes₀ size₀ i₀ axes size i = d - i
+μ-loop m most d widths axes₀ size₀ i₀ axes size i = d - i
 
 module _ (m d : ℕ) (widths axes : List ℕ) (size i : ℕ) (f : Filled m d widths axes size i) where
   more : (u : ℕ) → d ≤ maxInputs → i < d → u ≡ axis m (getD widths i 0) → Filled m d widths (set axes i u) (size * u) (i + 1)
@@ -57,21 +58,32 @@ module _ (m d : ℕ) (widths axes : List ℕ) (size i : ℕ) (f : Filled m d wid
       product : size * u ≡ Places.size (map (axis m) (take (i + 1) widths))
       product = rw (f .sized, e, map-take (axis m) widths i used) (sym (size-snoc (map (axis m) (take i widths)) (axis m (getD widths i 0))))
 
+abbrev bounded : tie.After-axis Inv-loop μ-loop → tie.After-bound Inv-loop μ-loop
+bounded c = c .before .before .before .before .before
+
+abbrev entered : tie.After-bound Inv-loop μ-loop → tie.Start Inv-loop μ-loop
+entered c = c .before .before
+
 -- the invariant after one turn
 next :
     (c : tie.After-axis Inv-loop μ-loop) →
-    let z = c .before .before .before .before .before .before .args .z in
+    let z = entered (bounded c) .args .z in
     let l = c .before .before .loop in
     Filled (z .m) (z .d) (z .widths) (set (l .axes) (l .i) (c .axis .result)) (l .size * c .axis .result) (l .i + 1)
+unfolding axis
 next c =
-    let entry = c .before .before .before .before .before .before in
+    let entry = entered (bounded c) in
     let z = entry .args .z in
     let l = c .before .before .loop in
     more (z .m) (z .d) (z .widths) (l .axes) (l .size) (l .i) (l .inv) (c .axis .result)
-    (entry .pre .1) (c .before .loop-test .taken) (c .axis .ensures .0)
+    (entry .pre .1) (c .before .loop-test .taken)
+    (c .axis .ensures .0 ∙ ap (min (range (getD (z .widths) (l .i) 0))) (bounded c .bound .ensures))
 
 cast-m : tie.Need-cast-m Inv-loop μ-loop
 cast-m c = search needs
+
+bound-requires : tie.Need-bound-requires Inv-loop μ-loop
+bound-requires c κs = search needs
 
 cast-d : tie.Need-cast-d Inv-loop μ-loop
 cast-d c = search needs
@@ -88,7 +100,10 @@ cast-axis : tie.Need-cast-axis Inv-loop μ-loop
 cast-axis c = search needs
 
 axis-requires : tie.Need-axis-requires Inv-loop μ-loop
-axis-requires c κs = search needs
+axis-requires c κs =
+    let b = c .before .before .before .before in
+    let p = entered b .pre .0 in
+    rw (b .bound .ensures) (bound-most _ (p .0) (p .1))
 
 mul-axes : tie.Need-mul-axes Inv-loop μ-loop
 mul-axes c = search needs
@@ -98,7 +113,7 @@ array-write-axes c = search needs
 
 mul-size : tie.Need-mul-size Inv-loop μ-loop
 mul-size c =
-    let entry = c .before .before .before .before .before .before in
+    let entry = entered (bounded c) in
     let z = entry .args .z in
     let p = entry .pre in
     let i = c .before .before .loop .i in
@@ -117,7 +132,7 @@ loop-again c = next c
 returns : tie.Need-returns Inv-loop μ-loop
 unfolding gridOf gridSize axesOf
 returns c =
-    let z = c .before .before .before .before .before .args .z in
+    let z = entered (c .before .before .before .before) .args .z in
     let f = c .before .loop .inv in
     let e : c .before .loop .i ≡ z .d = omega arith in
     λ j. record { axes = (f .filled ∙ ap (λ i. map (axis (z .m)) (take i (z .widths)) ++ replicate (maxInputs - i) 0) e) j; size = (f .sized ∙ ap (λ i. Places.size (map (axis (z .m)) (take i (z .widths)))) e) j }
@@ -129,6 +144,7 @@ grid-of-spec =
     Inv-loop
     μ-loop
     cast-m
+    bound-requires
     cast-d
     loop-holds
     array-read-axis

@@ -105,7 +105,7 @@ impl Bench {
         self.same(&done.answer[..3], &expected, || named("evaluate", file))
     }
 
-    pub fn bound(&mut self, m: u64) -> Outcome<[u64; 4]> {
+    pub fn bound(&mut self, m: u64) -> Outcome<[u64; 10]> {
         let answer = self.product.bound(m)?;
         self.same(&answer, &calls::bound(m), || format!("bound({m})"))?;
         Ok(answer)

@@ -3,23 +3,37 @@
 use crate::bench::{Bench, Outcome};
 use crate::refusals::plain;
 use reference::examples::GRIDS;
-use reference::pairs::{BOUNDS, SAMPLE_A};
+use reference::pairs::{BOUNDS, FIGURES, SAMPLE_A};
 use reference::random::Random;
 use reference::samples;
 
 pub const SEED: u64 = 0x9a1d_5eed;
 
 pub fn bounds(bench: &mut Bench) -> Outcome {
-    for m in (0..=70).chain([255, 256, 257, 1 << 32, (1 << 32) + 1, 1 << 63, u64::MAX]) {
+    let far = [
+        1 << 16,
+        1 << 32,
+        (1 << 32) + 1,
+        1 << 63,
+        u64::MAX - 1,
+        u64::MAX,
+    ];
+    for m in (0..=300).chain(far) {
         bench.bound(m)?;
     }
     for (m, least) in BOUNDS {
         let answer = bench.bound(m)?;
-        bench.same(&answer, &[0, 0, 0, least], || format!("bound({m})"))?;
+        bench.same(&answer[..4], &[0, 0, 0, least], || format!("bound({m})"))?;
+    }
+    for (m, figures) in FIGURES {
+        let answer = bench.bound(m)?;
+        bench.same(&answer[3..], &figures, || format!("bound({m})"))?;
     }
     for m in [0, 65, u64::MAX] {
         let answer = bench.bound(m)?;
-        bench.same(&answer, &[2, 0, 0, 0], || format!("bound({m})"))?;
+        bench.same(&answer, &[2, 0, 0, 0, 0, 0, 0, 0, 0, 0], || {
+            format!("bound({m})")
+        })?;
     }
     Ok(())
 }

@@ -76,10 +76,10 @@ impl Product {
         self.file_call("grid", corkbingo_grid, file)
     }
 
-    pub fn bound(&mut self, m: u64) -> Outcome<[u64; 4]> {
+    pub fn bound(&mut self, m: u64) -> Outcome<[u64; 10]> {
         // SAFETY: the slice is lent as pointer and length.
         let mut call = |out, length| unsafe { corkbingo_bound(m, out, length) };
-        wrong_lengths("bound", 4, &mut call)?;
+        wrong_lengths("bound", 10, &mut call)?;
         right_length("bound", &mut call)
     }
 

@@ -1,3 +1,4 @@
+pub mod Algorithm
 pub mod Computed
-pub mod Least
 pub mod Quotients
+pub mod Table

@@ -11,7 +11,8 @@ use Rattle.integers.proofs.Exponent.{power-coarse}
 use Rattle.integers.proofs.Legendre.{legendre}
 use Rattle.bound.specs.Bound.{bound}
 use Rattle.bound.specs.Quotients.{halvings, HalvingsListed, BoundExponents}
-use Rattle.bound.proofs.Least.{bound-least, bound-most, leastBound}
+use Rattle.bound.proofs.Algorithm.{leastBound}
+use Rattle.bound.proofs.Table.{bound-least, bound-most}
 
 pub halvingsListed : HalvingsListed
 unfolding halvings quotients tabulate
@@ -24,7 +25,7 @@ halvings-exponent n h = legendre n 6 h
 
 pub boundExponents : BoundExponents
 boundExponents m low high =
-    record { reached = reached; enough = reached .greatest m (leastBound m low high .divides); before = before; short = short }
+    record { reached = reached; enough = reached .greatest m (leastBound m .divides); before = before; short = short }
   where
     reached : IsExponent (factorial (bound m)) (total (halvings (bound m)))
     reached = halvings-exponent (bound m) (omega (arith, bound-most m low high))
@@ -37,5 +38,5 @@ boundExponents m low high =
         elim (decLt (total (halvings (bound m - 1))) m) [
           | yes l ↦ l
           | no n ↦ absurd (omega
-              (arith, bound-least m low high, leastBound m low high .least (bound m - 1) (power-coarse _ m _ (omega arith) (before .divides))))
+              (arith, bound-least m low high, leastBound m .least (bound m - 1) (power-coarse _ m _ (omega arith) (before .divides))))
         ]

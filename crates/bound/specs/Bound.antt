@@ -8,13 +8,13 @@
 --                  this gives 2m too
 --   bounds         L(1) to L(64), as a table
 --   maxBound       the largest of them, L(64)
---   LargestBound   it is, and no other bound is above it. Proved in proofs/Least
---   LeastBound     L(m) is that least number, for every m from 1 to 64. Proved in proofs/Least, by one test over the whole table
---   SameBound      for every m from 1 to 64 the three ways to L(m) give the same number. Proved in proofs/Least:
---     computed     what algorithm 1 computes is the least number whose factorial is divisible by 2^m
---     only         and no other number is
---     listed       the entry of m in the table is what algorithm 1 computes
---     count        and the table has 64 entries
+--   LargestBound   it is, and no other bound is above it. Proved in proofs/Table
+--   LeastBound     for every m, algorithm 1 gives the least number whose factorial is divisible by 2^m. Proved in proofs/Algorithm
+--   SameBound      the three ways to L(m) come to the same. Proved in proofs/Table, for the table by one test over the whole of it:
+--     computed     algorithm 1 gives that least number
+--     only         and there is no other
+--     listed       for m from 1 to 64 it is the entry of m in the table
+--     count        which has 64 entries
 use mathlib.Core.Path.{_≡_}
 use mathlib.Core.List.{List, [], _∷_}
 use Prim.Native.Nat.{ℕ, zero, suc, _+_, _-_, _/_, _%_, _^_, _≤_, _<_}
@@ -54,10 +54,10 @@ abbrev pub LargestBound : Type 0
 LargestBound = (maxBound ≡ bound 64) × ((m : ℕ) → 1 ≤ m → m ≤ 64 → bound m ≤ maxBound)
 
 abbrev pub LeastBound : Type 0
-LeastBound = (m : ℕ) → 1 ≤ m → m ≤ 64 → IsBound m (bound m)
+LeastBound = (m : ℕ) → IsBound m (bound m)
 
 pub record SameBound : Type 0 where
   pub computed : LeastBound
-  pub only : (m n : ℕ) → 1 ≤ m → m ≤ 64 → IsBound m n → n ≡ bound m
+  pub only : (m n : ℕ) → IsBound m n → n ≡ bound m
   pub listed : (m : ℕ) → 1 ≤ m → m ≤ 64 → getD bounds (m - 1) 0 ≡ bound m
   pub count : length bounds ≡ 64

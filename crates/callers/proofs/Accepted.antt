@@ -11,7 +11,7 @@ use lib.Seq.{take-at, getD-at, getD-drop}
 use borrow.Author.Tests.{eq-eqb, ne-eqb}
 use Rattle.bound.specs.Bound.{IsBound, bound}
 use Rattle.bound.specs.Quotients.{halvings, Exponents}
-use Rattle.bound.proofs.Least.{leastBound}
+use Rattle.bound.proofs.Algorithm.{leastBound}
 use Rattle.bound.proofs.Quotients.{halvingsListed, boundExponents}
 use Rattle.evaluate.specs.Evaluate.{refusalAt, evaluatedAt, evaluatedScratch}
 use Rattle.evaluate.specs.declared.Evaluated.{Evaluated as Answer}
@@ -137,7 +137,7 @@ module _ (m : ℕ) (o o′ : List ℕ) (h : BoundCall m o 1 o′) where
   bounded =
       record {
         range = (in-range, λ r. first (inside r));
-        least = of-words (λ n q. IsBound m n) (λ r. leastBound m (r .low) (r .high));
+        least = of-words (λ n q. IsBound m n) (λ r. leastBound m);
         quotients =
             of-words (λ n q. q ≡ n / 2 ∷ n / 4 ∷ n / 8 ∷ n / 16 ∷ n / 32 ∷ n / 64 ∷ []) (λ r. halvingsListed (bound m));
         exponent = of-words (λ n q. IsExponent (factorial n) (total q)) (λ r. exponents r .reached);

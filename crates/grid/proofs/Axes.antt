@@ -7,7 +7,7 @@ use lib.Dec.{lit≤, lit<}
 use lib.ListN.{length, getD}
 use Rattle.bound.specs.Axes.{axis, axes}
 use Rattle.bound.specs.Bound.{bound, maxBound}
-use Rattle.bound.proofs.Least.{bound-least, bound-most}
+use Rattle.bound.proofs.Table.{bound-least, bound-most}
 use Rattle.places.specs.Places.{size}
 use Rattle.sizes.specs.Sizes.{maxInputs}
 

@@ -4,7 +4,7 @@ use mathlib.Core.Path.{_≡_, refl, sym, _∙_, ap, ap₂}
 use mathlib.Core.Bool.{true, false, cond}
 use mathlib.Core.Logic.{⊎-elim}
 use mathlib.Core.List.{List, [], _∷_, _++_, map}
-use Prim.Native.Nat.{ℕ, zero, suc, _-_, _^_, _<_, _≤_}
+use Prim.Native.Nat.{ℕ, zero, suc, _-_, _^_, _<_}
 use lib.Dec.{eqb}
 use lib.IntN.{ℤ, pos, _+ℤ_, _-ℤ_, _*ℤ_, +ℤ-idl}
 use lib.ListN.{getD, length, List·getD-map}
@@ -12,7 +12,7 @@ use lib.Pow.{pow-pos}
 use lib.Seq.{getD-append-seam}
 use borrow.Author.Tests.{eqb-true, eqb-false}
 use Rattle.bound.specs.Bound.{bound}
-use Rattle.bound.proofs.Least.{leastBound}
+use Rattle.bound.proofs.Algorithm.{leastBound}
 use Rattle.integers.specs.Modulo.{Divides}
 use Rattle.integers.proofs.Divisibility.{divides-of-mod}
 use Rattle.integers.proofs.Remainder.{congruent→equal, equal→congruent}
@@ -96,14 +96,14 @@ module _ (pre post : List ℕ) where
 
 -- outputs that agree at the values below L(m) of one input agree at all of its values
 pub agree-along :
-    (m : ℕ) → 1 ≤ m → m ≤ 64 → (ts₁ ts₂ : List Step) (pre post : List ℕ) →
+    (m : ℕ) (ts₁ ts₂ : List Step) (pre post : List ℕ) →
     ((t : ℕ) → t < bound m → Agree m ts₁ ts₂ (pre ++ t ∷ post)) →
     (x : ℕ) →
     Agree m ts₁ ts₂ (pre ++ x ∷ post)
 unfolding output at
-agree-along m low high ts₁ ts₂ pre post agrees x =
+agree-along m ts₁ ts₂ pre post agrees x =
     congruent→equal (exact ts₁ (pre ++ x ∷ post)) (exact ts₂ (pre ++ x ∷ post)) (2 ^ m) (pow-pos m)
-    (rw (gap x) (oneVariable (2 ^ m) (bound m) (divides-of-mod (2 ^ m) _ (leastBound m low high .divides)) p below x))
+    (rw (gap x) (oneVariable (2 ^ m) (bound m) (divides-of-mod (2 ^ m) _ (leastBound m .divides)) p below x))
   where
     p : List ℤ
     p = Newton.sub (exactPolynomial pre post ts₁) (exactPolynomial pre post ts₂)

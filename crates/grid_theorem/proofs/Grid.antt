@@ -40,7 +40,7 @@ not-equal a b e = eqb-false a b (not-true (eqb a b) e)
 equal : (a b : ℕ) → not (eqb a b) ≡ false → a ≡ b
 equal a b e = eqb-true a b (not-false (eqb a b) e)
 
-module _ (m : ℕ) (low : 1 ≤ m) (high : m ≤ 64) (ts₁ ts₂ : List Step) where
+module _ (m : ℕ) (ts₁ ts₂ : List Step) where
   abbrev Differ : List ℕ → Type 0
   Differ x = ¬ Agree m ts₁ ts₂ x
 
@@ -49,7 +49,7 @@ module _ (m : ℕ) (low : 1 ≤ m) (high : m ≤ 64) (ts₁ ts₂ : List Step) w
   lower pre post x d =
       elim (decLt t (bound m)) [
         | yes l ↦ (t, l, not-equal _ _ (first-found differs 0 (bound m) (omega arith)))
-        | no g ↦ absurd (d (agree-along m low high ts₁ ts₂ pre post (all g) x))
+        | no g ↦ absurd (d (agree-along m ts₁ ts₂ pre post (all g) x))
       ]
     where
       differs : ℕ → Bool
@@ -148,11 +148,11 @@ module _ (m : ℕ) (low : 1 ≤ m) (high : m ≤ 64) (ts₁ ts₂ : List Step) w
         (eq-or-lt-of-le (placed-after y (r .onGrid) (r .differs)))
 
 pub gridTheorem : GridTheorem
-gridTheorem m low high ns ts₁ ts₂ =
+gridTheorem m ns ts₁ ts₂ =
     record {
-      settled = (λ all x b. all x (grid-full m ns x b), from-grid m low high ts₁ ts₂ ns);
-      none = none m low high ts₁ ts₂ ns;
+      settled = (λ all x b. all x (grid-full m ns x b), from-grid m ts₁ ts₂ ns);
+      none = none m ts₁ ts₂ ns;
       some = λ l.
           let b = oneToOne (axes m ns) .below _ l in
-          (b, record { fullWidth = grid-full m ns _ b; differs = found m low high ts₁ ts₂ ns l; earliest = earliest m low high ts₁ ts₂ ns l });
+          (b, record { fullWidth = grid-full m ns _ b; differs = found m ts₁ ts₂ ns l; earliest = earliest m ts₁ ts₂ ns l });
     }

@@ -1,5 +1,5 @@
 -- The grid theorem. It is proved in proofs/Grid.
---   GridTheorem   what OnGrid says, for every output word length m from 1 to 64, all word lengths and all steps
+--   GridTheorem   what OnGrid says, for every output word length m, all word lengths and all steps
 --   OnGrid        of two datapaths and their grid:
 --     settled   the outputs agree at every full-width vector exactly where they agree at every vector of the grid
 --     none      no place of the grid differs: they agree at every full-width vector
@@ -8,7 +8,7 @@
 use mathlib.Core.Path.{_≡_}
 use mathlib.Core.Logic.{_↔_}
 use mathlib.Core.List.{List}
-use Prim.Native.Nat.{ℕ, _≤_, _<_}
+use Prim.Native.Nat.{ℕ, _<_}
 use Rattle.bound.specs.Axes.{ranges, axes}
 use Rattle.places.specs.Places.{Below, size, vectorAt}
 use Rattle.datapath.specs.declared.Step.{Step}
@@ -29,4 +29,4 @@ pub record OnGrid (m : ℕ) (ns : List ℕ) (ts₁ ts₂ : List Step) : Type 0 w
       IsFirst m ns ts₁ ts₂ (vectorAt (axes m ns) (firstDifference m (axes m ns) ts₁ ts₂))
 
 abbrev pub GridTheorem : Type 0
-GridTheorem = (m : ℕ) → 1 ≤ m → m ≤ 64 → (ns : List ℕ) (ts₁ ts₂ : List Step) → OnGrid m ns ts₁ ts₂
+GridTheorem = (m : ℕ) (ns : List ℕ) (ts₁ ts₂ : List Step) → OnGrid m ns ts₁ ts₂

@@ -2,7 +2,7 @@
 -- so the exponents of two factors add up to that of their product, since odd times odd is odd.
 use mathlib.Core.Path.{_≡_, sym, _∙_, ap, ap₂, subst}
 use Prim.Native.Nat.{ℕ, zero, suc, _+_, _*_, _-_, _/_, _%_, _^_, _≤_, _<_}
-use native.Mathlib.Nat.{mod-one, zero-mod, mod-add-div, mod-lt, mul-mod-right, mul-add-mod-self-left, mul-mul-mul-comm, mul-assoc, pow-suc, two-pow-succ, one-le-pow}
+use native.Mathlib.Nat.{mod-one, zero-mod, mod-add-div, mod-lt, mul-mod-right, mul-add-mod-self-left, mul-mul-mul-comm, mul-assoc, pow-suc, two-pow-succ, one-le-pow, le-antisymm}
 use native.Mathlib.Nat.{le-of-dvd, dvd-of-mod-eq-zero, mod-eq-zero-of-dvd, dvd-of-mul-dvd-mul-left}
 use native.Mathlib.Decide.{ℕ-discrete, decLe}
 use native.Mathlib.Omega.{arith}
@@ -27,10 +27,16 @@ exponent-most n e k h l d =
       | no a ↦ absurd (omega (arith, l, le-of-dvd h (dvd-of-mod-eq-zero (2 ^ e) d), pow-mono {i = k + 1} {j = e} (omega arith)))
     ]
 
+pub exponent-unique : (n e f : ℕ) → IsExponent n e → IsExponent n f → e ≡ f
+exponent-unique n e f p q = le-antisymm (q .greatest e (p .divides)) (p .greatest f (q .divides))
+
 -- a number is below two to its power
 pub below-power : (n : ℕ) → n < 2 ^ n
 below-power zero = lit< tt
 below-power (suc n) = omega (arith, below-power n, two-pow-succ n)
+
+pub below-next : (n : ℕ) → n < 2 ^ (n + 1)
+below-next n = omega (arith, below-power n, pow-mono {i = n} {j = n + 1} (omega arith))
 
 -- the greatest exponent, where none is above k
 down : (n k : ℕ) → ((j : ℕ) → n % 2 ^ j ≡ 0 → j ≤ k) → (e : ℕ) × IsExponent n e
@@ -45,10 +51,10 @@ down n (suc k) h =
     below j l n = omega arith
 
 pub exponent : (n : ℕ) → 0 < n → (e : ℕ) × IsExponent n e
-exponent n h = down n n (λ j d. exponent-most n j n h (omega (arith, below-power n, pow-mono {i = n} {j = n + 1} (omega arith))) d)
+exponent n h = down n n (λ j d. exponent-most n j n h (below-next n) d)
 
 -- of 2^e times an odd number e is the exponent
-exponent-odd : (e u : ℕ) → u % 2 ≡ 1 → IsExponent (2 ^ e * u) e
+pub exponent-odd : (e u : ℕ) → u % 2 ≡ 1 → IsExponent (2 ^ e * u) e
 exponent-odd e u odd =
     record { divides = mul-mod-right (2 ^ e) u; greatest = λ k d. elim (decLe k e) [ yes l ↦ l | no n ↦ absurd (more k d (omega arith)) ] }
   where

@@ -2,14 +2,15 @@
 -- exponent of two in n + 1, and by 0 elsewhere; and the exponent in (n + 1)! is that in n + 1 more than that in n!.
 use mathlib.Core.Path.{_≡_, refl, sym, _∙_, ap, subst}
 use Prim.Native.Nat.{ℕ, zero, suc, _+_, _*_, _-_, _/_, _%_, _^_, _<_, min}
-use native.Mathlib.Nat.{mod-eq-of-lt, mod-add-div, mod-lt, mod-self, zero-div, div-eq-of-lt, add-mul-div-left, add-mul-mod-self-left, div-self, zero-lt-suc}
+use native.Mathlib.Nat.{mod-eq-of-lt, mod-add-div, mod-lt, mod-self, zero-div, div-eq-of-lt, add-mul-div-left, add-mul-mod-self-left, div-self, two-pow-succ, zero-lt-suc}
 use native.Mathlib.Decide.{decLe, decLt}
 use native.Mathlib.Omega.{arith}
 use lib.Dec.{lit<}
+use lib.Pow.{pow-add}
 use Rattle.lists.specs.Lists.{tabulate, total}
 use Rattle.integers.specs.Exponent.{IsExponent, quotients, Legendre}
 use Rattle.integers.specs.Modulo.{factorial}
-use Rattle.integers.proofs.Exponent.{power-least, power-coarse, exponent-most, exponent, exponent-product}
+use Rattle.integers.proofs.Exponent.{power-least, power-coarse, exponent-most, exponent, exponent-odd, exponent-unique, exponent-product, below-next}
 
 module _ (n M : ℕ) (h : 0 < M) where
   next : suc n ≡ suc (n % M) + M * (n / M)
@@ -73,3 +74,54 @@ legendre (suc n) k h =
     subst (IsExponent (suc n * factorial n))
     (omega (arith, grown n e (x .1) 1 k, few))
     (exponent-product (suc n) (factorial n) e (sum n 1 k) (x .1) (legendre n k (omega arith)))
+
+-- the exponent of two in n!
+pub twos : ℕ → ℕ
+twos n = total (quotients n n)
+
+pub twos-exponent : (n : ℕ) → IsExponent (factorial n) (twos n)
+unfolding twos
+twos-exponent n = legendre n n (below-next n)
+
+pub twos-quotients : (n k : ℕ) → n < 2 ^ (k + 1) → twos n ≡ total (quotients n k)
+twos-quotients n k h = exponent-unique (factorial n) (twos n) (total (quotients n k)) (twos-exponent n) (legendre n k h)
+
+-- 2^v adds 2^(v − i) to the quotient by 2^i
+sum-power : (v x j k : ℕ) → j + k ≡ suc v → sum (2 ^ v + x) j k ≡ sum x j k + (2 ^ k - 1)
+unfolding tabulate total
+sum-power v x j zero h = omega arith
+sum-power v x j (suc k) h =
+    let p : 2 ^ v ≡ 2 ^ j * 2 ^ k = ap (λ i. 2 ^ i) (omega arith) ∙ pow-add 2 j k in
+    let q : (2 ^ v + x) / 2 ^ j ≡ x / 2 ^ j + 2 ^ k =
+    ap (λ y. (y + x) / 2 ^ j) p ∙ ap (λ y. y / 2 ^ j) (omega arith) ∙ add-mul-div-left x (2 ^ k) (power-least j) in
+    omega (arith, q, sum-power v x (j + 1) k (omega arith), two-pow-succ k, power-least k)
+
+twos-none : twos 0 ≡ 0
+unfolding factorial
+twos-none = exponent-unique 1 (twos 0) 0 (twos-exponent 0) exponent-one
+
+-- above a power of two
+pub twos-power : (v x : ℕ) → x < 2 ^ v → twos (2 ^ v + x) ≡ 2 ^ v - 1 + twos x
+unfolding quotients
+twos-power v x h =
+    twos-quotients (2 ^ v + x) v (omega (arith, q))
+    ∙ sum-power v x 1 v (omega arith)
+    ∙ omega (arith, twos-quotients x v (omega (arith, q)))
+  where
+    q : 2 ^ (v + 1) ≡ 2 ^ v + 2 ^ v
+    q = ap (λ i. 2 ^ i) (omega arith) ∙ two-pow-succ v
+
+pub twos-at : (v : ℕ) → twos (2 ^ v) ≡ 2 ^ v - 1
+twos-at v =
+    let e : 2 ^ v ≡ 2 ^ v + 0 = omega arith in
+    ap twos e ∙ twos-power v 0 (power-least v) ∙ omega (arith, twos-none)
+
+-- just below one
+pub twos-before : (v : ℕ) → twos (2 ^ v - 1) + v ≡ 2 ^ v - 1
+unfolding factorial
+twos-before v =
+    let b = 2 ^ v - 1 in
+    let e : 2 ^ v * 1 ≡ suc b = omega (arith, power-least v) in
+    let f : suc b ≡ 2 ^ v = omega (arith, power-least v) in
+    let p = exponent-product (suc b) (factorial b) v (twos b) (subst (λ n. IsExponent n v) e (exponent-odd v 1 refl)) (twos-exponent b) in
+    omega (arith, exponent-unique (factorial (suc b)) (v + twos b) (twos (suc b)) p (twos-exponent (suc b)), ap twos f, twos-at v)

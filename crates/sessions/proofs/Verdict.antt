@@ -57,7 +57,7 @@ module _ (f₁ f₂ : List ℕ) (pair : isRefusal (pairRefusal f₁ f₂) ≡ fa
   stopped = let r = stop-range f₁ f₂ in record { low = r .1 (file-grid-least f₁ (told .0)); high = r .0 }
 
   onGrid : OnGrid m widths (stepsOf f₁) (stepsOf f₂)
-  onGrid = gridTheorem m (told .0 .outputLow) (told .0 .outputHigh) widths (stepsOf f₁) (stepsOf f₂)
+  onGrid = gridTheorem m widths (stepsOf f₁) (stepsOf f₂)
 
   -- the files' outputs are equal where the theorem's are
   same-outputs : (x : List ℕ) → (outputOf f₁ x ≡ outputOf f₂ x) ↔ Agree m (stepsOf f₁) (stepsOf f₂) x

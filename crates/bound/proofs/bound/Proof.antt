@@ -11,7 +11,7 @@ use borrow.Author.Needs.{needs}
 use Rattle.integers.proofs.Exponent.{power-least}
 use Rattle.bound.specs.Bound.{bound, log2, greedy}
 use Rattle.bound.proofs.Computed.{log2-unique, greedy-0, greedy-step}
-use Rattle.bound.proofs.Least.{bound-most}
+use Rattle.bound.proofs.Table.{bound-most}
 use Rattle.bound.proofs.bound.Statement.{statement}
 use Rattle.bound.proofs.bound.Tie as tie
 

@@ -3,7 +3,7 @@
 -- Assumes nothing.
 use borrow.Author.Needs.{needs}
 use Rattle.bound.specs.Bound.{bounds}
-use Rattle.bound.proofs.Least.{bound-entry}
+use Rattle.bound.proofs.Table.{bound-entry}
 use Rattle.bound.proofs.listed_bound.Statement.{statement}
 use Rattle.bound.proofs.listed_bound.Tie as tie
 

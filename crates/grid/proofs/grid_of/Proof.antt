@@ -8,7 +8,7 @@ use native.Mathlib.Omega.{arith}
 use lib.ListN.{length, getD, take, drop, set, replicate, length-map, length-take, length-replicate}
 use lib.Seq.{length-take-le}
 use Rattle.bound.specs.Axes.{range, axis}
-use Rattle.bound.proofs.Least.{bound-most}
+use Rattle.bound.proofs.Table.{bound-most}
 use Rattle.grid.specs.Grid.{gridOf, gridSize, axesOf}
 use Rattle.grid.proofs.Axes.{size-fits}
 use Rattle.lists.proofs.Lists.{set-front, map-take}

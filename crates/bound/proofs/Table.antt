@@ -1,6 +1,7 @@
 -- Every entry of the table is its bound. One test over the whole table: 2^m divides L! and not (L − 1)!. Since j! divides k! for j up to k,
--- no number below L will do either. Two more tests: every entry is what algorithm 1 computes, and from 1 to 66.
-use mathlib.Core.Path.{_≡_, refl, subst}
+-- no number below L will do either; and since the least number is one alone, the entry is what algorithm 1 gives. A second test: every entry
+-- is from 1 to 66.
+use mathlib.Core.Path.{_≡_, refl}
 use mathlib.Core.Bool.{Bool, true, not, _&&_, and-eq-true-iff}
 use Prim.Native.Nat.{ℕ, _-_, _%_, _^_, _≤_}
 use native.Mathlib.Nat.{le-antisymm}
@@ -11,13 +12,20 @@ use lib.Dec.{leb, eqb, lit≤}
 use lib.ListN.{getD}
 use Rattle.integers.specs.Modulo.{factorial}
 use Rattle.integers.proofs.Divisibility.{factorial-mod}
-use Rattle.ranges.specs.Search.{first, every}
+use Rattle.ranges.specs.Search.{every}
 use Rattle.ranges.proofs.Search.{every-at}
-use Rattle.bound.specs.Bound.{IsBound, log2, greedy, bounds, bound, maxBound, LargestBound, LeastBound, SameBound}
+use Rattle.bound.specs.Bound.{IsBound, bounds, bound, maxBound, LargestBound, SameBound}
+use Rattle.bound.proofs.Algorithm.{leastBound}
 
 -- the table's entry of m
 abbrev entry : ℕ → ℕ
 entry m = getD bounds (m - 1) 0
+
+-- the least number is one alone
+bound-only : (m n : ℕ) → IsBound m n → n ≡ bound m
+bound-only m n p =
+    let b = leastBound m in
+    le-antisymm (p .least (bound m) (b .divides)) (b .least n (p .divides))
 
 -- 2^m divides L! and not (L − 1)!, where L is the entry of m
 right : ℕ → Bool
@@ -27,14 +35,6 @@ right m =
 all-right : every right 1 64 ≡ true
 unfolding every right bounds factorial
 all-right = refl
-
--- the entry of m is what is computed
-same : ℕ → Bool
-same m = eqb (entry m) (bound m)
-
-all-same : every same 1 64 ≡ true
-unfolding every same bounds bound log2 greedy first
-all-same = refl
 
 -- it is from 1 to the largest bound
 between : ℕ → Bool
@@ -48,19 +48,9 @@ module _ (m : ℕ) (low : 1 ≤ m) (high : m ≤ 64) where
   at : (f : ℕ → Bool) → every f 1 64 ≡ true → f m ≡ true
   at f all = every-at f 1 64 m all low (omega arith)
 
-  pub bound-entry : entry m ≡ bound m
-  unfolding same
-  bound-entry = eqb-true _ _ (at same all-same)
-
   range : (leb 1 (entry m) ≡ true) × (leb (entry m) maxBound ≡ true)
   unfolding between
   range = and-eq-true-iff _ _ .0 (at between all-between)
-
-  pub bound-least : 1 ≤ bound m
-  bound-least = rw (← bound-entry) (leb-true _ _ (range .0))
-
-  pub bound-most : bound m ≤ maxBound
-  bound-most = rw (← bound-entry) (leb-true _ _ (range .1))
 
   tests : (eqb (factorial (entry m) % 2 ^ m) 0 ≡ true) × (not (eqb (factorial (entry m - 1) % 2 ^ m) 0) ≡ true)
   unfolding right
@@ -77,21 +67,20 @@ module _ (m : ℕ) (low : 1 ≤ m) (high : m ≤ 64) where
       elim (decLe (entry m) k)
       [ yes l ↦ l | no n ↦ absurd (short (factorial-mod (2 ^ m) k (entry m - 1) (omega arith) e)) ]
 
+  -- so the entry of m is its bound
+  pub bound-entry : entry m ≡ bound m
+  bound-entry = bound-only m (entry m) (record { divides = whole; least = least })
+
+  pub bound-least : 1 ≤ bound m
+  bound-least = rw (← bound-entry) (leb-true _ _ (range .0))
+
+  pub bound-most : bound m ≤ maxBound
+  bound-most = rw (← bound-entry) (leb-true _ _ (range .1))
+
 pub largestBound : LargestBound
 unfolding bounds
 largestBound = (bound-entry 64 (lit≤ tt) (lit≤ tt), bound-most)
 
-pub leastBound : LeastBound
-leastBound m low high =
-    subst (IsBound m) (bound-entry m low high) (record { divides = whole m low high; least = least m low high })
-
 pub sameBound : SameBound
 unfolding bounds
-sameBound =
-    record {
-      computed = leastBound;
-      only = λ m n low high p.
-          let b = leastBound m low high in le-antisymm (p .least (bound m) (b .divides)) (b .least n (p .divides));
-      listed = bound-entry;
-      count = refl;
-    }
+sameBound = record { computed = leastBound; only = bound-only; listed = bound-entry; count = refl }

@@ -1,9 +1,9 @@
 -- Every entry of the table is its bound. One test over the whole table: 2^m divides L! and not (L − 1)!. Since j! divides k! for j up to k,
 -- no number below L will do either; and since the least number is one alone, the entry is what algorithm 1 gives. A second test: every entry
 -- is from 1 to 66.
-use mathlib.Core.Path.{_≡_, refl}
+use mathlib.Core.Path.{_≡_, refl, sym, ap}
 use mathlib.Core.Bool.{Bool, true, not, _&&_, and-eq-true-iff}
-use Prim.Native.Nat.{ℕ, _-_, _%_, _^_, _≤_}
+use Prim.Native.Nat.{ℕ, _-_, _%_, _^_, _≤_, min}
 use native.Mathlib.Nat.{le-antisymm}
 use native.Mathlib.Decide.{decLe}
 use native.Mathlib.Omega.{arith}
@@ -14,6 +14,7 @@ use Rattle.integers.specs.Modulo.{factorial}
 use Rattle.integers.proofs.Divisibility.{factorial-mod}
 use Rattle.ranges.specs.Search.{every}
 use Rattle.ranges.proofs.Search.{every-at}
+use Rattle.bound.specs.Axes.{axis, AxisLeast}
 use Rattle.bound.specs.Bound.{IsBound, bounds, bound, maxBound, LargestBound, SameBound}
 use Rattle.bound.proofs.Algorithm.{leastBound}
 
@@ -83,4 +84,8 @@ largestBound = (bound-entry 64 (lit≤ tt) (lit≤ tt), bound-most)
 
 pub sameBound : SameBound
 unfolding bounds
-sameBound = record { computed = leastBound; only = bound-only; listed = bound-entry; count = refl }
+sameBound = record { only = bound-only; listed = bound-entry; count = refl }
+
+pub axisLeast : AxisLeast
+unfolding axis
+axisLeast m n l p = ap (min (2 ^ n)) (sym (bound-only m l p))

@@ -10,11 +10,10 @@
 --   maxBound       the largest of them, L(64)
 --   LargestBound   it is, and no other bound is above it. Proved in proofs/Table
 --   LeastBound     for every m, algorithm 1 gives the least number whose factorial is divisible by 2^m. Proved in proofs/Algorithm
---   SameBound      the three ways to L(m) come to the same. Proved in proofs/Table, for the table by one test over the whole of it:
---     computed     algorithm 1 gives that least number
---     only         and there is no other
---     listed       for m from 1 to 64 it is the entry of m in the table
---     count        which has 64 entries
+--   SameBound      what algorithm 1 gives, the least number and the table are one. Proved in proofs/Table, for the table by one test over it:
+--     only         no number but L(m) is least
+--     listed       for m from 1 to 64 the entry of m in the table is L(m)
+--     count        the table has 64 entries
 use mathlib.Core.Path.{_≡_}
 use mathlib.Core.List.{List, [], _∷_}
 use Prim.Native.Nat.{ℕ, zero, suc, _+_, _-_, _/_, _%_, _^_, _≤_, _<_}
@@ -57,7 +56,6 @@ abbrev pub LeastBound : Type 0
 LeastBound = (m : ℕ) → IsBound m (bound m)
 
 pub record SameBound : Type 0 where
-  pub computed : LeastBound
   pub only : (m n : ℕ) → IsBound m n → n ≡ bound m
   pub listed : (m : ℕ) → 1 ≤ m → m ≤ 64 → getD bounds (m - 1) 0 ≡ bound m
   pub count : length bounds ≡ 64

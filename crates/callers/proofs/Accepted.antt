@@ -3,20 +3,22 @@
 use mathlib.Core.Bool.{Bool, false}
 use mathlib.Core.List.{List, [], _∷_, _++_, append-assoc}
 use mathlib.Core.Path.{_≡_, refl, sym, _∙_, ap, subst}
-use Prim.Native.Nat.{ℕ, _+_, _-_, _/_, _≤_, _<_}
+use Prim.Native.Nat.{ℕ, _+_, _-_, _/_, _^_, _≤_, _<_, min}
 use native.Mathlib.Decide.{ℕ-discrete, decLe}
 use native.Mathlib.Omega.{arith}
 use lib.ListN.{length, getD, take, drop, replicate, length-map, length-take, length-append, length-replicate, List·getD-append, List·getD-eq-default}
-use lib.Seq.{take-at, getD-at, getD-drop}
+use lib.Seq.{take-at, getD-at, getD-take, getD-drop}
 use borrow.Author.Tests.{eq-eqb, ne-eqb}
+use Rattle.bound.specs.Axes.{axis}
 use Rattle.bound.specs.Bound.{IsBound, bound}
 use Rattle.bound.specs.Quotients.{halvings, Exponents}
 use Rattle.bound.proofs.Algorithm.{leastBound}
+use Rattle.bound.proofs.Table.{axisLeast}
 use Rattle.bound.proofs.Quotients.{halvingsListed, boundExponents}
 use Rattle.evaluate.specs.Evaluate.{refusalAt, evaluatedAt, evaluatedScratch}
 use Rattle.evaluate.specs.declared.Evaluated.{Evaluated as Answer}
 use Rattle.evaluate.proofs.Answers.{answer-accepted}
-use Rattle.figures.specs.Figures.{figuresOf, boundAnswered, boundRefused, From1To64}
+use Rattle.figures.specs.Figures.{figuresOf, boundAnswered, boundRefused}
 use Rattle.figures.specs.declared.Figures.{Figures}
 use Rattle.figures.proofs.Exactly.{figuresExactly}
 use Rattle.file.specs.Accepted.{Accepted}
@@ -39,6 +41,7 @@ use Rattle.layouts.specs.SizeWords.{sizeWords, sizesFrom}
 use Rattle.layouts.proofs.Sessions.{file-widths, file-bytes}
 use Rattle.layouts.proofs.Sizes.{sizesAsWords}
 use Rattle.lists.specs.Lists.{total}
+use Rattle.lists.proofs.Lists.{map-entry}
 use Rattle.session_calls.specs.SessionCalls.{continueFits, continuing, ContinueCall}
 use Rattle.sessions.specs.Calls.{answerTo}
 use Rattle.sessions.specs.Session.{continueRefusal}
@@ -56,7 +59,7 @@ use Rattle.file_tables.specs.FileTables.{tableRefusal, madeTable, tableScratch}
 use Rattle.file_tables.proofs.Answers.{made, table-0, table-accepted, scratch-accepted}
 use Rattle.tables.specs.Tables.{differenced, summedUp}
 use Rattle.vectors.proofs.Padded.{padded-entry}
-use Rattle.callers.specs.AcceptedInC.{Checked, Stretched, Bounded, Gridded, Evaluated, Tabled, Continued, CellsWritten, SumOfTableInC, DifferenceOfSumInC, SumOfDifferenceInC, AcceptedInC}
+use Rattle.callers.specs.AcceptedInC.{Checked, Stretched, From1To64, Bounded, Gridded, Evaluated, Tabled, Continued, CellsWritten, SumOfTableInC, DifferenceOfSumInC, SumOfDifferenceInC, AcceptedInC}
 use Rattle.callers.proofs.Refused.{right-told, right-left}
 
 -- what a call that returned 1 wrote
@@ -110,10 +113,10 @@ module _ (m : ℕ) (o o′ : List ℕ) (h : BoundCall m o 1 o′) where
   bound-said f e = wrote (has 10 o) _ o o′ (h .result) (h .out) ∙ ap figureWords e
 
   inside : From1To64 m → o′ ≡ 0 ∷ 0 ∷ 0 ∷ bound m ∷ halvings (bound m)
-  inside r = bound-said (boundAnswered m) (figuresExactly .inside m r)
+  inside r = bound-said (boundAnswered m) (figuresExactly .inside m (r .low, r .high))
 
   outside : ¬ From1To64 m → o′ ≡ 2 ∷ replicate 9 0
-  outside n = bound-said boundRefused (figuresExactly .outside m n)
+  outside n = bound-said boundRefused (figuresExactly .outside m (λ p. n (record { low = p .0; high = p .1 })))
 
   in-range : wordAt o′ 0 ≡ 0 → From1To64 m
   in-range z = elim (decLe 1 m) [
@@ -187,21 +190,34 @@ module _ (f o o′ : List ℕ) (h : GridCall f o 1 o′) where
         ∙ ap (take (sizesOf f .d)) (append-assoc us zeros (gridSize (sizesOf f) ∷ []))
         ∙ take-at us _ (sizesOf f .d) axes-count
 
-    others-zero : (i : ℕ) → sizesOf f .d ≤ i → i < 8 → wordAt o′ (3 + i) ≡ 0
-    others-zero i low high =
+    word-entry : (i : ℕ) → i < 8 → wordAt o′ (3 + i) ≡ getD us i 0
+    word-entry i high =
         sym (getD-drop 3 o′ i 0)
         ∙ ap (λ l. getD (drop 3 l) i 0) grid-words
         ∙ List·getD-append (us ++ zeros) (gridSize (sizesOf f) ∷ []) 0 i (omega (arith, eight))
         ∙ ap (λ k. getD (us ++ replicate (8 - k) 0) i 0) (sym axes-count)
         ∙ padded-entry us i
-        ∙ List·getD-eq-default us 0 (omega (arith, axes-count))
+
+    values-least :
+        (i : ℕ) → i < sizesOf f .d → (l : ℕ) → IsBound (sizesOf f .m) l → wordAt o′ (3 + i) ≡ min (2 ^ getD (sizesOf f .widths) i 0) l
+    unfolding axesOf
+    values-least i h l b =
+        let z = sizesOf f in
+        word-entry i (omega (arith, sound .inputsHigh))
+        ∙ map-entry (axis (z .m)) (take (z .d) (z .widths)) i
+        (simp length-take (omega (arith, h, file-widths f (sound .long), sound .inputsHigh)))
+        ∙ ap (axis (z .m)) (getD-take (z .d) (z .widths) i 0 h)
+        ∙ axisLeast (z .m) (getD (z .widths) i 0) l b
+
+    others-zero : (i : ℕ) → sizesOf f .d ≤ i → i < 8 → wordAt o′ (3 + i) ≡ 0
+    others-zero i low high = word-entry i high ∙ List·getD-eq-default us 0 (omega (arith, axes-count))
 
     size-last : wordAt o′ 11 ≡ gridSize (sizesOf f)
     size-last = ap (λ l. wordAt l 11) grid-words ∙ getD-at (us ++ zeros) (gridSize (sizesOf f)) [] 0 8 eight
 
   gridded : Gridded f o′
   gridded =
-      record { number = grid-number; axes = axes-first; others = others-zero; size = size-last; none = no-grid }
+      record { number = grid-number; axes = axes-first; values = values-least; others = others-zero; size = size-last; none = no-grid }
 
 module _ (f x s o s′ o′ : List ℕ) (h : EvaluateCall f x s o 1 s′ o′) (zero : wordAt o′ 0 ≡ 0) where
   evaluate-said : o′ ≡ evaluateWords (evaluatedAt f x (length s))

@@ -29,7 +29,7 @@ use Rattle.sessions.specs.declared.Answer.{Answer}
 use Rattle.sessions.specs.declared.Session.{Session}
 use Rattle.sessions.proofs.Carried.{passed-accepted, carried}
 use Rattle.sessions.proofs.Cases.{passed}
-use Rattle.sizes.specs.Sizes.{within, badOutput, badInputs, badWidths, refusedBy, accepted}
+use Rattle.sizes.specs.Sizes.{outputLength, badOutput, badInputs, badWidths, refusedBy, accepted}
 use Rattle.sizes.specs.declared.Refusal.{Refusal}
 use Rattle.sizes.specs.declared.Sizes.{Sizes}
 use Rattle.table_calls.specs.TableCalls.{cellsFit}
@@ -98,9 +98,9 @@ plain-opened s₁ s₂ = plain-pair s₁ s₂
 plain-bound : (m : ℕ) → Plain (figuresOf m .refusal)
 plain-bound m =
     ⊎-elim
-    (λ (e : within 1 64 m ≡ true). rw (figures-accepted m e) (plain-by 0))
-    (λ (e : within 1 64 m ≡ false). rw (figures-refused m e) (plain-by 2))
-    (true-or-false (within 1 64 m))
+    (λ (e : outputLength m ≡ true). rw (figures-accepted m e) (plain-by 0))
+    (λ (e : outputLength m ≡ false). rw (figures-refused m e) (plain-by 2))
+    (true-or-false (outputLength m))
 
 -- words that begin with a refusal's say it
 says : (q : Refusal) (o rest : List ℕ) → o ≡ refusalWords q ++ rest → Plain q → Says q o

@@ -19,6 +19,7 @@
 --   Gridded f o′         of corkbingo_grid:
 --     number       the number word is the file's number
 --     axes         where it is 0, the first d words from word 3 on are the axes
+--     values       each of these is the smaller of 2^n, for its input's word length n, and the least number whose factorial is divisible by 2^m
 --     others       the other words of the eight from word 3 on are 0
 --     size         and word 11 is G
 --     none         in a refusal all words from word 3 on are 0
@@ -38,14 +39,13 @@
 use mathlib.Core.List.{List, [], _∷_, _++_}
 use mathlib.Core.Logic.{_↔_}
 use mathlib.Core.Path.{_≡_}
-use Prim.Native.Nat.{ℕ, _+_, _-_, _/_, _≤_, _<_}
-use lib.ListN.{length, take, drop, replicate}
+use Prim.Native.Nat.{ℕ, _+_, _-_, _/_, _^_, _≤_, _<_, min}
+use lib.ListN.{length, getD, take, drop, replicate}
 use Rattle.bound.specs.Bound.{IsBound}
 use Rattle.bound.specs.Quotients.{halvings}
 use Rattle.differences.specs.Table.{listed}
 use Rattle.engine.specs.Engine.{largerCount}
 use Rattle.evaluate.specs.Evaluate.{outputOf}
-use Rattle.figures.specs.Figures.{From1To64}
 use Rattle.file.specs.Accepted.{Accepted}
 use Rattle.file.specs.Check.{fileNumber}
 use Rattle.fields.specs.File.{sizesOf, stepCount}
@@ -71,6 +71,11 @@ pub record Stretched (f o′ : List ℕ) : Type 0 where
   pub count : fileNumber f ≡ 0 → wordAt o′ 1 ≡ stepCount f
   pub none : ¬ (fileNumber f ≡ 0) → o′ ≡ 0 ∷ 0 ∷ []
 
+-- m is an output word length
+pub record From1To64 (m : ℕ) : Type 0 where
+  pub low : 1 ≤ m
+  pub high : m ≤ 64
+
 pub record Bounded (m : ℕ) (o′ : List ℕ) : Type 0 where
   pub range : (wordAt o′ 0 ≡ 0) ↔ From1To64 m
   pub least : wordAt o′ 0 ≡ 0 → IsBound m (wordAt o′ 3)
@@ -83,6 +88,9 @@ pub record Bounded (m : ℕ) (o′ : List ℕ) : Type 0 where
 pub record Gridded (f o′ : List ℕ) : Type 0 where
   pub number : wordAt o′ 0 ≡ fileNumber f
   pub axes : wordAt o′ 0 ≡ 0 → take (sizesOf f .d) (drop 3 o′) ≡ axesOf (sizesOf f)
+  pub values :
+      wordAt o′ 0 ≡ 0 → (i : ℕ) → i < sizesOf f .d → (l : ℕ) → IsBound (sizesOf f .m) l →
+      wordAt o′ (3 + i) ≡ min (2 ^ getD (sizesOf f .widths) i 0) l
   pub others : wordAt o′ 0 ≡ 0 → (i : ℕ) → sizesOf f .d ≤ i → i < 8 → wordAt o′ (3 + i) ≡ 0
   pub size : wordAt o′ 0 ≡ 0 → wordAt o′ 11 ≡ gridSize (sizesOf f)
   pub none : ¬ (wordAt o′ 0 ≡ 0) → drop 3 o′ ≡ replicate 9 0

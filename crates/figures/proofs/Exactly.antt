@@ -1,31 +1,28 @@
--- The figures of m, by the cases of its range. Assumes nothing.
+-- The figures of m, by the cases of condition 2. Assumes nothing.
 use mathlib.Core.Path.{_≡_}
 use mathlib.Core.Bool.{true, false}
 use mathlib.Core.Logic.{inl, inr}
 use Prim.Native.Nat.{ℕ}
 use borrow.Author.Tests.{le-leb}
 use Rattle.ranges.proofs.Search.{true-or-false}
-use Rattle.sizes.specs.Sizes.{within}
+use Rattle.sizes.specs.Sizes.{outputLength, OutputLength}
 use Rattle.sizes.proofs.Ranges.{within-range}
-use Rattle.figures.specs.Figures.{figuresOf, boundAnswered, boundRefused, From1To64, FiguresExactly}
+use Rattle.figures.specs.Figures.{figuresOf, boundAnswered, boundRefused, FiguresExactly}
 
 module _ (m : ℕ) where
-  pub figures-refused : within 1 64 m ≡ false → figuresOf m ≡ boundRefused
+  pub figures-refused : outputLength m ≡ false → figuresOf m ≡ boundRefused
   unfolding figuresOf
   figures-refused e = rw e
 
-  pub figures-accepted : within 1 64 m ≡ true → figuresOf m ≡ boundAnswered m
+  pub figures-accepted : outputLength m ≡ true → figuresOf m ≡ boundAnswered m
   unfolding figuresOf
   figures-accepted e = rw e
 
-  inside : From1To64 m → within 1 64 m ≡ true
-  inside r = rw (le-leb 1 m (r .low)) (le-leb m 64 (r .high))
+  inside : OutputLength m → outputLength m ≡ true
+  inside r = rw (le-leb 1 m (r .0)) (le-leb m 64 (r .1))
 
-  range : within 1 64 m ≡ true → From1To64 m
-  range e = let p = within-range 1 64 m e in record { low = p .0; high = p .1 }
-
-  outside : ¬ From1To64 m → within 1 64 m ≡ false
-  outside n = elim (true-or-false (within 1 64 m)) [ inl e ↦ absurd (n (range e)) | inr e ↦ e ]
+  outside : ¬ OutputLength m → outputLength m ≡ false
+  outside n = elim (true-or-false (outputLength m)) [ inl e ↦ absurd (n (within-range 1 64 m e)) | inr e ↦ e ]
 
 pub figuresExactly : FiguresExactly
 figuresExactly =

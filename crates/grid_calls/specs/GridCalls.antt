@@ -31,7 +31,7 @@ boundLength = refusalLength + 7
 
 -- the words of figures
 abbrev pub figureWords : Figures → List ℕ
-figureWords f = refusalWords (f .refusal) ++ (f .bound ∷ f .quotients)
+figureWords b = refusalWords (b .refusal) ++ (b .bound ∷ b .quotients)
 
 unfoldable pub boundWords : ℕ → List ℕ
 boundWords m = figureWords (figuresOf m)

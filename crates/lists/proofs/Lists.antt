@@ -1,4 +1,4 @@
--- Laws of lists: a map of an append, entries one by one, and the write that extends a list kept in the front of another. Each by recursion or by the laws of
+-- Laws of lists: a map of an append and an entry of a map, entries one by one, and the write that extends a list kept in the front of another. Each by recursion or by the laws of
 -- lib.Seq.
 use mathlib.Core.Path.{_≡_, refl, sym, _∙_, ap}
 use mathlib.Core.List.{List, [], _∷_, _++_, map}
@@ -11,6 +11,12 @@ use lib.Seq.{append-snoc, drop-cons, drop-drop, set-at, take-suc}
 pub map-append {ℓ κ} : {A : Type ℓ} {B : Type κ} (f : A → B) (xs ys : List A) → map f (xs ++ ys) ≡ map f xs ++ map f ys
 map-append f [] ys = refl
 map-append f (x ∷ xs) ys = ap (λ zs. f x ∷ zs) (map-append f xs ys)
+
+-- an entry of a map
+pub map-entry : (f : ℕ → ℕ) (l : List ℕ) (i : ℕ) → i < length l → getD (map f l) i 0 ≡ f (getD l i 0)
+map-entry f [] i h = absurd (omega arith)
+map-entry f (x ∷ xs) zero h = refl
+map-entry f (x ∷ xs) (suc i) h = map-entry f xs i (omega arith)
 
 -- the n entries of a list from i on, one by one
 abbrev pub entries : ℕ → List ℕ → ℕ → List ℕ

@@ -1,4 +1,5 @@
 -- Conditions on the sizes, each under document 01's number ('Refused because of the input').
+--   outputLength m   what 2 asks: m is 1 to 64
 --   badOutput    2. m is not 1 to 64
 --   badInputs    3. d is not 1 to maxInputs
 --   badWidths    5. a word-length byte breaks its rule: 1 to 64 for the first d, and 0 for the others
@@ -7,6 +8,7 @@
 --   accepts r    the call that answers r is accepted
 --   isRefusal r  and that it is refused
 --   maxInputs    the largest count of inputs, which is also the count of word-length bytes
+--   OutputLength m  what 2 asks, with no test in it
 --   OutputRuled z   2 with no test in it: m is 1 to 64
 --   InputsRuled z   3 with no test in it: d is 1 to maxInputs
 --   Ruled z      2, 3 and 5 with no test in them: m is 1 to 64, d is 1 to maxInputs, and each word length keeps its rule
@@ -29,8 +31,11 @@ maxInputs = 8
 abbrev pub within : ℕ → ℕ → ℕ → Bool
 within low high n = leb low n && leb n high
 
+abbrev pub outputLength : ℕ → Bool
+outputLength m = within 1 64 m
+
 unfoldable pub badOutput : Sizes → Bool
-badOutput z = not (within 1 64 (z .m))
+badOutput z = not (outputLength (z .m))
 
 unfoldable pub badInputs : Sizes → Bool
 badInputs z = not (within 1 maxInputs (z .d))
@@ -42,8 +47,11 @@ widthRule z i = cond (ltb i (z .d)) (within 1 64 (getD (z .widths) i 0)) (eqb (g
 unfoldable pub badWidths : Sizes → Bool
 badWidths z = not (every (widthRule z) 0 maxInputs)
 
+abbrev pub OutputLength : ℕ → Type 0
+OutputLength m = (1 ≤ m) × (m ≤ 64)
+
 abbrev pub OutputRuled : Sizes → Type 0
-OutputRuled z = (1 ≤ z .m) × (z .m ≤ 64)
+OutputRuled z = OutputLength (z .m)
 
 abbrev pub InputsRuled : Sizes → Type 0
 InputsRuled z = (1 ≤ z .d) × (z .d ≤ maxInputs)

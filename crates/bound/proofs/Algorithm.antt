@@ -7,12 +7,22 @@ use native.Mathlib.Nat.{mod-lt, mod-add-div, two-pow-succ, mul-le-mul-left}
 use native.Mathlib.Decide.{ℕ-discrete, decLe, decLt}
 use native.Mathlib.Numerals.{add-one}
 use native.Mathlib.Omega.{arith}
+use lib.Pow.{pow-pos}
 use Rattle.integers.specs.Modulo.{factorial}
 use Rattle.integers.proofs.Divisibility.{factorial-mod}
-use Rattle.integers.proofs.Exponent.{power-least, power-coarse}
+use Rattle.integers.proofs.Exponent.{power-coarse}
 use Rattle.integers.proofs.Legendre.{twos, twos-exponent, twos-power, twos-at, twos-before}
-use Rattle.bound.specs.Bound.{log2, greedy, bound, LeastBound}
+use Rattle.bound.specs.Bound.{IsBound, log2, greedy, bound, LeastBound}
 use Rattle.bound.proofs.Computed.{logTwo, greedy-0}
+
+-- a number is least where 2^m divides its factorial, and not that of the number before it: j! divides k! for j up to k
+pub least-number : (m l : ℕ) → factorial l % 2 ^ m ≡ 0 → (0 < l → ¬ (factorial (l - 1) % 2 ^ m ≡ 0)) → IsBound m l
+least-number m l whole short = record { divides = whole; least = least }
+  where
+    least : (k : ℕ) → factorial k % 2 ^ m ≡ 0 → l ≤ k
+    least k e =
+        elim (decLe l k)
+        [ yes h ↦ h | no n ↦ absurd (short (omega arith) (factorial-mod (2 ^ m) k (l - 1) (omega arith) e)) ]
 
 -- l is right for r, from v on
 record Right (v r l : ℕ) : Type 0 where
@@ -25,7 +35,7 @@ record Right (v r l : ℕ) : Type 0 where
 -- where the quotient is 1
 module _ (v r l : ℕ) (few : r + 1 < 2 ^ suc v) (p : Right v r l) where
   above : 2 ≤ 2 ^ suc v
-  above = omega (arith, two-pow-succ v, power-least v)
+  above = omega (arith, two-pow-succ v, pow-pos v)
 
   once-enough : 2 ^ suc v - 1 + r ≤ twos (2 ^ suc v + l)
   once-enough =
@@ -63,7 +73,7 @@ twice : (v : ℕ) → Right (suc v) (2 ^ suc (suc v) - 2) (2 ^ suc (suc v))
 twice v =
     let e = two-pow-succ (suc v) in
     let h = two-pow-succ v in
-    let g = power-least v in
+    let g = pow-pos v in
     record {
       enough = omega (arith, twos-at (suc (suc v)));
       short = λ l. omega (arith, twos-before (suc (suc v)), e, h, g);
@@ -83,12 +93,12 @@ turn v r zero s h e few p =
     moved f (omega arith)
     (record { enough = p .enough; short = p .short; some = p .some; none = p .none; most = omega (arith, p .most, two-pow-succ (suc v)) })
 turn v r (suc zero) s h e few p =
-    moved (omega arith) (omega (arith, power-least (suc v))) (once v s (s + greedy v s) few p)
+    moved (omega arith) (omega (arith, pow-pos (suc v))) (once v s (s + greedy v s) few p)
 turn v r (suc (suc q)) s h e few p =
     let a = 2 ^ suc v - 1 in
-    let u : a + 1 ≡ 2 ^ suc v = omega (arith, power-least (suc v)) in
+    let u : a + 1 ≡ 2 ^ suc v = omega (arith, pow-pos (suc v)) in
     let b : r ≡ s + a * q + 2 * a = omega (arith, e) in
-    let c : q * 1 ≤ q * a = mul-le-mul-left q (omega (arith, two-pow-succ v, power-least v)) in
+    let c : q * 1 ≤ q * a = mul-le-mul-left q (omega (arith, two-pow-succ v, pow-pos v)) in
     let z : (s ≡ 0) × (q ≡ 0) = (omega (arith, u, b, two-pow-succ (suc v)), omega (arith, u, b, c, two-pow-succ (suc v))) in
     moved (omega (arith, z, u, b, two-pow-succ (suc v))) (omega (arith, z, u, b, two-pow-succ (suc v), greedy-0 v, ap (greedy v) (z .0))) (twice v)
 
@@ -104,12 +114,12 @@ right zero r h =
     }
 right (suc v) r h =
     let a = 2 ^ suc v - 1 in
-    let l : r % a < a = mod-lt r (omega (arith, two-pow-succ v, power-least v)) in
+    let l : r % a < a = mod-lt r (omega (arith, two-pow-succ v, pow-pos v)) in
     turn v r (r / a) (r % a) h (sym (mod-add-div r a)) (omega arith) (right v (r % a) (omega arith))
 
 pub leastBound : LeastBound
 unfolding bound
-leastBound m = record { divides = power-coarse _ m _ (p .enough) (twos-exponent l .divides); least = least }
+leastBound m = least-number m l (power-coarse _ m _ (p .enough) (twos-exponent l .divides)) short
   where
     l : ℕ
     l = m + greedy (log2 (1 + m)) m
@@ -119,18 +129,10 @@ leastBound m = record { divides = power-coarse _ m _ (p .enough) (twos-exponent 
         let t : 1 + m < 2 ^ suc (log2 (1 + m)) = rw (add-one (log2 (1 + m))) at (logTwo (1 + m) (omega arith) .1) in
         right (log2 (1 + m)) m (omega (arith, t))
 
-    least : (k : ℕ) → factorial k % 2 ^ m ≡ 0 → l ≤ k
-    least k d =
-        elim (decLe l k) [
-          | yes h ↦ h
-          | no n ↦ absurd (below (omega arith))
+    short : 0 < l → ¬ (factorial (l - 1) % 2 ^ m ≡ 0)
+    short h d =
+        let e = twos-exponent (l - 1) .greatest m d in
+        elim (ℕ-discrete m 0) [
+          | yes z ↦ omega (arith, h, p .none z)
+          | no n ↦ omega (arith, e, p .short (omega arith))
         ]
-      where
-        -- 2^m would divide (l − 1)!
-        below : k < l → ⊥
-        below h =
-            let e = twos-exponent (l - 1) .greatest m (factorial-mod (2 ^ m) k (l - 1) (omega arith) d) in
-            elim (ℕ-discrete m 0) [
-              | yes z ↦ omega (arith, h, p .none z)
-              | no n ↦ omega (arith, e, p .short (omega arith))
-            ]

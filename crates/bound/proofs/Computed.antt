@@ -1,4 +1,4 @@
--- The laws of algorithm 1: its logarithm is the one number that it should be, and a remainder of 0 adds no more.
+-- The laws of algorithm 1: its logarithm is the one number that it should be; one turn of its loop; and a remainder of 0 adds no more.
 use mathlib.Core.Path.{_≡_, refl, sym, _∙_, ap, ap₂}
 use Prim.Native.Nat.{ℕ, zero, suc, _+_, _-_, _/_, _%_, _^_, _≤_, _<_}
 use native.Mathlib.Nat.{zero-div, zero-mod}

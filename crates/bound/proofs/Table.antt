@@ -1,22 +1,19 @@
--- Every entry of the table is its bound. One test over the whole table: 2^m divides L! and not (L − 1)!. Since j! divides k! for j up to k,
--- no number below L will do either; and since the least number is one alone, the entry is what algorithm 1 gives. A second test: every entry
--- is from 1 to 66.
+-- Every entry of the table is its bound. One test over the whole table: 2^m divides L! and not (L − 1)!. So L is the least number; and since
+-- there is one alone, it is what algorithm 1 gives. A second test: every entry is from 1 to 66.
 use mathlib.Core.Path.{_≡_, refl, sym, ap}
 use mathlib.Core.Bool.{Bool, true, not, _&&_, and-eq-true-iff}
 use Prim.Native.Nat.{ℕ, _-_, _%_, _^_, _≤_, min}
 use native.Mathlib.Nat.{le-antisymm}
-use native.Mathlib.Decide.{decLe}
 use native.Mathlib.Omega.{arith}
 use borrow.Author.Tests.{leb-true, eqb-true, eqb-false, not-true}
 use lib.Dec.{leb, eqb, lit≤}
 use lib.ListN.{getD}
 use Rattle.integers.specs.Modulo.{factorial}
-use Rattle.integers.proofs.Divisibility.{factorial-mod}
 use Rattle.ranges.specs.Search.{every}
 use Rattle.ranges.proofs.Search.{every-at}
 use Rattle.bound.specs.Axes.{axis, AxisLeast}
 use Rattle.bound.specs.Bound.{IsBound, bounds, bound, maxBound, LargestBound, SameBound}
-use Rattle.bound.proofs.Algorithm.{leastBound}
+use Rattle.bound.proofs.Algorithm.{least-number, leastBound}
 
 -- the table's entry of m
 abbrev entry : ℕ → ℕ
@@ -63,14 +60,9 @@ module _ (m : ℕ) (low : 1 ≤ m) (high : m ≤ 64) where
   short : factorial (entry m - 1) % 2 ^ m ≡ 0 → ⊥
   short = eqb-false _ _ (not-true _ (tests .1))
 
-  least : (k : ℕ) → factorial k % 2 ^ m ≡ 0 → entry m ≤ k
-  least k e =
-      elim (decLe (entry m) k)
-      [ yes l ↦ l | no n ↦ absurd (short (factorial-mod (2 ^ m) k (entry m - 1) (omega arith) e)) ]
-
   -- so the entry of m is its bound
   pub bound-entry : entry m ≡ bound m
-  bound-entry = bound-only m (entry m) (record { divides = whole; least = least })
+  bound-entry = bound-only m (entry m) (least-number m (entry m) whole (λ _. short))
 
   pub bound-least : 1 ≤ bound m
   bound-least = rw (← bound-entry) (leb-true _ _ (range .0))

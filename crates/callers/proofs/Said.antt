@@ -22,7 +22,7 @@ use Rattle.layouts.specs.Layout.{has}
 use Rattle.layouts.specs.Lengths.{wordAt}
 use Rattle.layouts.specs.SessionWords.{sessionFrom}
 use Rattle.layouts.specs.SizeWords.{sizesFrom}
-use Rattle.ranges.proofs.Search.{true-or-false}
+use Rattle.ranges.proofs.Search.{true-or-false, cond-each}
 use Rattle.session_calls.specs.SessionCalls.{openFits, continueFits, continuing, ContinueCall}
 use Rattle.sessions.specs.Session.{sameSizes, pairRefusal, opened, continueRefusal}
 use Rattle.sessions.specs.declared.Answer.{Answer}
@@ -46,8 +46,7 @@ plain-by : (n : ℕ) → Plain (refusedBy n)
 plain-by n = record { passes = λ e. ap refusedBy e }
 
 plain-cond : (b : Bool) {p q : Refusal} → Plain p → Plain q → Plain (cond b p q)
-plain-cond true x y = x
-plain-cond false x y = y
+plain-cond = cond-each Plain
 
 plain-file : (w : ℕ) (s : List ℕ) → Plain (refusalOf w s)
 unfolding refusalOf

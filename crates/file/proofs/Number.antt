@@ -9,7 +9,7 @@ use native.Mathlib.Omega.{arith}
 use lib.Dec.{ltb, eqb, lit≤}
 use lib.ListN.{length}
 use borrow.Author.Tests.{lt-ltb, le-ltb, lt-leb, le-leb, eq-eqb, ne-eqb, ltb-true, ltb-false, eqb-true, eqb-false, not-true, not-false}
-use Rattle.ranges.proofs.Search.{true-or-false, first-found}
+use Rattle.ranges.proofs.Search.{true-or-false, cond-each, first-found}
 use Rattle.sizes.specs.Sizes.{within, badOutput, badInputs, badWidths}
 use Rattle.fields.specs.File.{headLength, sizesOf, stepCount, operationsOf}
 use Rattle.file.specs.Check.{maxSteps, tooShort, badCount, badLength, badOperation, badArgument, stepFault, faultyAt, faultyStep, headFault, fileNumber, shownStep, refusalOf, stretchOf}
@@ -17,10 +17,6 @@ use Rattle.file.specs.Check.{maxSteps, tooShort, badCount, badLength, ba
 pub cond-zero : (b : Bool) (x y : ℕ) → cond b (suc x) y ≡ 0 → (b ≡ false) × (y ≡ 0)
 cond-zero true x y e = absurd (omega arith)
 cond-zero false x y e = (refl, e)
-
-cond-most : (b : Bool) (x y n : ℕ) → x ≤ n → y ≤ n → cond b x y ≤ n
-cond-most true x y n l h = l
-cond-most false x y n l h = h
 
 low : (a b : Bool) (x y : ℕ) → 7 ≤ x → 7 ≤ y → (cond a x (cond b y 0) ≡ 0 → ⊥) → 7 ≤ cond a x (cond b y 0)
 low true b x y l h n = l
@@ -63,15 +59,18 @@ module _ (s : List ℕ) where
         size = eqb-true _ _ (not-false _ (p6 .0));
       }
 
-  head-most : headFault s ≤ 6
+  abbrev few : ℕ → Type 0
+  few n = n ≤ 6
+
+  head-most : few (headFault s)
   unfolding headFault
   head-most =
-      cond-most (tooShort s) 1 _ 6 (lit≤ tt)
-      (cond-most (badOutput (sizesOf s)) 2 _ 6 (lit≤ tt)
-      (cond-most (badInputs (sizesOf s)) 3 _ 6 (lit≤ tt)
-      (cond-most (badCount s) 4 _ 6 (lit≤ tt)
-      (cond-most (badWidths (sizesOf s)) 5 _ 6 (lit≤ tt)
-      (cond-most (badLength s) 6 0 6 (lit≤ tt) (lit≤ tt))))))
+      cond-each few (tooShort s) (lit≤ tt)
+      (cond-each few (badOutput (sizesOf s)) (lit≤ tt)
+      (cond-each few (badInputs (sizesOf s)) (lit≤ tt)
+      (cond-each few (badCount s) (lit≤ tt)
+      (cond-each few (badWidths (sizesOf s)) (lit≤ tt)
+      (cond-each few (badLength s) (lit≤ tt) (lit≤ tt))))))
 
   step-least : (k : ℕ) → (stepFault s k ≡ 0 → ⊥) → 7 ≤ stepFault s k
   unfolding stepFault

@@ -2,16 +2,13 @@
 -- so the exponents of two factors add up to that of their product, since odd times odd is odd.
 use mathlib.Core.Path.{_≡_, sym, _∙_, ap, ap₂, subst}
 use Prim.Native.Nat.{ℕ, zero, suc, _+_, _*_, _-_, _/_, _%_, _^_, _≤_, _<_}
-use native.Mathlib.Nat.{mod-one, zero-mod, mod-add-div, mod-lt, mul-mod-right, mul-add-mod-self-left, mul-mul-mul-comm, mul-assoc, pow-suc, two-pow-succ, one-le-pow, le-antisymm}
+use native.Mathlib.Nat.{mod-one, zero-mod, mod-add-div, mod-lt, mul-mod-right, mul-add-mod-self-left, mul-mul-mul-comm, mul-assoc, pow-suc, two-pow-succ, le-antisymm}
 use native.Mathlib.Nat.{le-of-dvd, dvd-of-mod-eq-zero, mod-eq-zero-of-dvd, dvd-of-mul-dvd-mul-left}
 use native.Mathlib.Decide.{ℕ-discrete, decLe}
 use native.Mathlib.Omega.{arith}
 use lib.Dec.{lit<}
-use lib.Pow.{pow-add, pow-mono, mod-mod-pow}
+use lib.Pow.{pow-pos, pow-add, pow-mono, mod-mod-pow}
 use Rattle.integers.specs.Exponent.{IsExponent}
-
-pub power-least : (e : ℕ) → 0 < 2 ^ e
-power-least e = one-le-pow e 2 (lit< tt)
 
 -- the powers of two up to one that divides n divide it
 pub power-coarse : (n j e : ℕ) → j ≤ e → n % 2 ^ e ≡ 0 → n % 2 ^ j ≡ 0
@@ -61,7 +58,7 @@ exponent-odd e u odd =
     more : (k : ℕ) → 2 ^ e * u % 2 ^ k ≡ 0 → e + 1 ≤ k → ⊥
     more k d l =
         let twice : 2 ^ e * u % (2 ^ e * 2) ≡ 0 = rw (← (pow-suc 2 e)) (power-coarse (2 ^ e * u) (suc e) k (omega arith) d) in
-        let even = mod-eq-zero-of-dvd 2 (dvd-of-mul-dvd-mul-left 2 (power-least e) (dvd-of-mod-eq-zero (2 ^ e * 2) twice)) in
+        let even = mod-eq-zero-of-dvd 2 (dvd-of-mul-dvd-mul-left 2 (pow-pos e) (dvd-of-mod-eq-zero (2 ^ e * 2) twice)) in
         omega (arith, odd, even)
 
 -- and each number is such a product

@@ -6,11 +6,11 @@ use native.Mathlib.Nat.{mod-eq-of-lt, mod-add-div, mod-lt, mod-self, zero-div, d
 use native.Mathlib.Decide.{decLe, decLt}
 use native.Mathlib.Omega.{arith}
 use lib.Dec.{lit<}
-use lib.Pow.{pow-add}
+use lib.Pow.{pow-pos, pow-add}
 use Rattle.lists.specs.Lists.{tabulate, total}
 use Rattle.integers.specs.Exponent.{IsExponent, quotients, Legendre}
 use Rattle.integers.specs.Modulo.{factorial}
-use Rattle.integers.proofs.Exponent.{power-least, power-coarse, exponent-most, exponent, exponent-odd, exponent-unique, exponent-product, below-next}
+use Rattle.integers.proofs.Exponent.{power-coarse, exponent-most, exponent, exponent-odd, exponent-unique, exponent-product, below-next}
 
 module _ (n M : ℕ) (h : 0 < M) where
   next : suc n ≡ suc (n % M) + M * (n / M)
@@ -52,8 +52,8 @@ unfolding tabulate total
 grown n e p j zero = omega arith
 grown n e p j (suc k) =
     elim (decLe j e) [
-      | yes l ↦ omega (arith, grown n e p (j + 1) k, quotient-grown n (2 ^ j) (power-least j) (power-coarse (suc n) j e l (p .divides)))
-      | no a ↦ omega (arith, grown n e p (j + 1) k, quotient-same n (2 ^ j) (power-least j) (λ d. a (p .greatest j d)))
+      | yes l ↦ omega (arith, grown n e p (j + 1) k, quotient-grown n (2 ^ j) (pow-pos j) (power-coarse (suc n) j e l (p .divides)))
+      | no a ↦ omega (arith, grown n e p (j + 1) k, quotient-same n (2 ^ j) (pow-pos j) (λ d. a (p .greatest j d)))
     ]
 
 none : (j k : ℕ) → sum 0 j k ≡ 0
@@ -93,8 +93,8 @@ sum-power v x j zero h = omega arith
 sum-power v x j (suc k) h =
     let p : 2 ^ v ≡ 2 ^ j * 2 ^ k = ap (λ i. 2 ^ i) (omega arith) ∙ pow-add 2 j k in
     let q : (2 ^ v + x) / 2 ^ j ≡ x / 2 ^ j + 2 ^ k =
-    ap (λ y. (y + x) / 2 ^ j) p ∙ ap (λ y. y / 2 ^ j) (omega arith) ∙ add-mul-div-left x (2 ^ k) (power-least j) in
-    omega (arith, q, sum-power v x (j + 1) k (omega arith), two-pow-succ k, power-least k)
+    ap (λ y. (y + x) / 2 ^ j) p ∙ ap (λ y. y / 2 ^ j) (omega arith) ∙ add-mul-div-left x (2 ^ k) (pow-pos j) in
+    omega (arith, q, sum-power v x (j + 1) k (omega arith), two-pow-succ k, pow-pos k)
 
 twos-none : twos 0 ≡ 0
 unfolding factorial
@@ -114,14 +114,14 @@ twos-power v x h =
 pub twos-at : (v : ℕ) → twos (2 ^ v) ≡ 2 ^ v - 1
 twos-at v =
     let e : 2 ^ v ≡ 2 ^ v + 0 = omega arith in
-    ap twos e ∙ twos-power v 0 (power-least v) ∙ omega (arith, twos-none)
+    ap twos e ∙ twos-power v 0 (pow-pos v) ∙ omega (arith, twos-none)
 
 -- just below one
 pub twos-before : (v : ℕ) → twos (2 ^ v - 1) + v ≡ 2 ^ v - 1
 unfolding factorial
 twos-before v =
     let b = 2 ^ v - 1 in
-    let e : 2 ^ v * 1 ≡ suc b = omega (arith, power-least v) in
-    let f : suc b ≡ 2 ^ v = omega (arith, power-least v) in
+    let e : 2 ^ v * 1 ≡ suc b = omega (arith, pow-pos v) in
+    let f : suc b ≡ 2 ^ v = omega (arith, pow-pos v) in
     let p = exponent-product (suc b) (factorial b) v (twos b) (subst (λ n. IsExponent n v) e (exponent-odd v 1 refl)) (twos-exponent b) in
     omega (arith, exponent-unique (factorial (suc b)) (v + twos b) (twos (suc b)) p (twos-exponent (suc b)), ap twos f, twos-at v)

@@ -4,9 +4,8 @@ use mathlib.Core.Bool.{true, false}
 use mathlib.Core.List.{List, [], _∷_, _++_}
 use mathlib.Core.Logic.{⊎-elim}
 use mathlib.Core.Path.{_≡_, refl, _∙_, ap}
-use Prim.Native.Nat.{ℕ, zero, suc, _+_, _-_, _≤_, min}
+use Prim.Native.Nat.{ℕ, zero, suc, _+_, _-_, _≤_}
 use native.Mathlib.Omega.{arith}
-use lib.Dec.{leb, ltb}
 use lib.ListN.{length, getD, take, length-append}
 use Rattle.fields.specs.File.{sizesOf}
 use Rattle.grid.specs.Grid.{axesOf}
@@ -18,8 +17,9 @@ use Rattle.sessions.specs.Session.{continueRefusal, refusedAnswer, plainAnswer,
 use Rattle.sessions.specs.declared.Answer.{Answer}
 use Rattle.sessions.specs.declared.Kind.{Kind}
 use Rattle.sessions.specs.declared.Kind.the-variants.{Refused, Spent, Equivalent, Differs}
+use Rattle.sessions.specs.declared.Continued.{Continued}
 use Rattle.sessions.specs.declared.Session.{Session}
-use Rattle.sessions.proofs.Cases.{passed}
+use Rattle.sessions.proofs.Cases.{passed, progress-each}
 use Rattle.sessions.proofs.Pair.{comparable}
 use Rattle.sizes.specs.Sizes.{maxInputs, isRefusal}
 use Rattle.vectors.proofs.Padded.{length-padded}
@@ -89,17 +89,12 @@ module _ (a : Answer) (whole : WholeVector a) where
 
 progress-vector :
     (s₁ s₂ : List ℕ) (σ : Session) (B G q : ℕ) → sizesOf s₁ .d ≤ maxInputs → WholeVector (progress s₁ s₂ σ B G q .answer)
-unfolding progress differsAnswer plainAnswer
+unfolding differsAnswer plainAnswer
 progress-vector s₁ s₂ σ B G q high =
-    ⊎-elim
-    (λ (e : ltb q (σ .position + min B (G - σ .position)) ≡ true).
-    rw e (length-padded (vectorAt (axesOf (sizesOf s₁)) q) (omega (arith, length-vector (axesOf (sizesOf s₁)) q, length-axes-most (sizesOf s₁)))))
-    (λ (e : ltb q (σ .position + min B (G - σ .position)) ≡ false).
-    ⊎-elim
-    (λ (h : leb G (σ .position + B) ≡ true). rw (e, h))
-    (λ (h : leb G (σ .position + B) ≡ false). rw (e, h))
-    (true-or-false (leb G (σ .position + B))))
-    (true-or-false (ltb q (σ .position + min B (G - σ .position))))
+    progress-each (λ (c : Continued). WholeVector (c .answer)) s₁ s₂ σ B G q
+    (length-padded (vectorAt (axesOf (sizesOf s₁)) q) (omega (arith, length-vector (axesOf (sizesOf s₁)) q, length-axes-most (sizesOf s₁))))
+    refl
+    refl
 
 continued-vector : (f₁ f₂ : List ℕ) (σ : Session) (B len : ℕ) → WholeVector (continued f₁ f₂ σ B len .answer)
 unfolding continued advanced refusedAnswer

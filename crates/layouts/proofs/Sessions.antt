@@ -4,10 +4,9 @@ use mathlib.Core.Bool.{true, false}
 use mathlib.Core.List.{List, [], _∷_, _++_}
 use mathlib.Core.Logic.{⊎-elim}
 use mathlib.Core.Path.{_≡_, refl, _∙_, ap}
-use Prim.Native.Nat.{ℕ, zero, suc, _+_, _-_, _≤_, _<_, min}
+use Prim.Native.Nat.{ℕ, zero, suc, _+_, _-_, _≤_, _<_}
 use native.Mathlib.Decide.{decLt}
 use native.Mathlib.Omega.{arith}
-use lib.Dec.{leb, ltb}
 use lib.ListN.{length, getD, take, length-append, length-take, length-drop, length-replicate, getD-replicate, List·getD-append}
 use Rattle.file.specs.Accepted.{Accepted}
 use Rattle.fields.specs.File.{headLength, sizesOf}
@@ -15,7 +14,9 @@ use Rattle.ranges.proofs.Search.{true-or-false}
 use Rattle.sessions.specs.Session.{pairRefusal, noSession, opened, continueRefusal, progress, advanced, continued}
 use Rattle.sessions.specs.declared.Mark.{Mark}
 use Rattle.sessions.specs.declared.Mark.the-variants.{Open, Equal, Differ}
+use Rattle.sessions.specs.declared.Continued.{Continued}
 use Rattle.sessions.specs.declared.Session.{Session}
+use Rattle.sessions.proofs.Cases.{progress-each}
 use Rattle.sessions.proofs.Pair.{comparable}
 use Rattle.sizes.specs.Sizes.{maxInputs, isRefusal}
 use Rattle.layouts.specs.Lengths.{wordAt, sizesLength, atPosition, atMark, sessionLength}
@@ -139,16 +140,7 @@ opened-bytes f₁ f₂ =
 
 -- a continue call keeps the sizes
 progress-sizes : (s₁ s₂ : List ℕ) (σ : Session) (B G q : ℕ) → progress s₁ s₂ σ B G q .session .sizes ≡ σ .sizes
-unfolding progress
-progress-sizes s₁ s₂ σ B G q =
-    ⊎-elim
-    (λ (e : ltb q (σ .position + min B (G - σ .position)) ≡ true). rw e)
-    (λ (e : ltb q (σ .position + min B (G - σ .position)) ≡ false).
-    ⊎-elim
-    (λ (h : leb G (σ .position + B) ≡ true). rw (e, h))
-    (λ (h : leb G (σ .position + B) ≡ false). rw (e, h))
-    (true-or-false (leb G (σ .position + B))))
-    (true-or-false (ltb q (σ .position + min B (G - σ .position))))
+progress-sizes s₁ s₂ σ B G q = progress-each (λ (c : Continued). c .session .sizes ≡ σ .sizes) s₁ s₂ σ B G q refl refl refl
 
 continued-sizes : (f₁ f₂ : List ℕ) (σ : Session) (B len : ℕ) → continued f₁ f₂ σ B len .session .sizes ≡ σ .sizes
 unfolding continued advanced

@@ -1,5 +1,5 @@
--- Laws of lists: a map of an append and an entry of a map, entries one by one, and the write that extends a list kept in the front of another. Each by recursion or by the laws of
--- lib.Seq.
+-- Laws of lists: a map of an append and an entry of a map, entries one by one, and the write that extends a list kept in the front of
+-- another. Each by recursion or by the laws of lib.Seq.
 use mathlib.Core.Path.{_≡_, refl, sym, _∙_, ap}
 use mathlib.Core.List.{List, [], _∷_, _++_, map}
 use Prim.Native.Nat.{ℕ, zero, suc, _+_, _-_, _<_, _≤_}

@@ -4,7 +4,7 @@
 -- every-step, every-not and every-end. A search may also be taken in parts: first-past passes a stretch with none, first-part ends inside a
 -- part, and first-shift makes the same tests elsewhere.
 -- Assumes nothing.
-use mathlib.Core.Bool.{Bool, true, false}
+use mathlib.Core.Bool.{Bool, true, false, cond}
 use mathlib.Core.Logic.{_⊎_, inl, inr, ⊎-elim}
 use mathlib.Core.Path.{_≡_, refl, sym, ap, _∙_}
 use Prim.Native.Nat.{ℕ, zero, suc, _+_, _-_, _≤_, _<_}
@@ -15,6 +15,11 @@ use Rattle.ranges.specs.Search.{first, every}
 pub true-or-false : (b : Bool) → (b ≡ true) ⊎ (b ≡ false)
 true-or-false true = inl refl
 true-or-false false = inr refl
+
+-- what holds of both holds of the one that is chosen
+pub cond-each : {A : Type 0} (P : A → Type 0) (b : Bool) {x y : A} → P x → P y → P (cond b x y)
+cond-each P true p q = p
+cond-each P false p q = q
 
 module _ (f : ℕ → Bool) where
   pub first-empty : (j : ℕ) → first f j 0 ≡ j

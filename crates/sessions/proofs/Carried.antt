@@ -3,9 +3,8 @@ use mathlib.Core.Bool.{true, false}
 use mathlib.Core.List.{List}
 use mathlib.Core.Logic.{⊎-elim}
 use mathlib.Core.Path.{_≡_, refl, sym, _∙_}
-use Prim.Native.Nat.{ℕ, _+_, _-_, min}
+use Prim.Native.Nat.{ℕ, _-_}
 use native.Mathlib.Omega.{arith}
-use lib.Dec.{leb, ltb}
 use borrow.Author.Tests.{lt-ltb, le-ltb}
 use Rattle.engine.specs.Engine.{largerCount}
 use Rattle.fields.specs.File.{sizesOf}
@@ -16,22 +15,15 @@ use Rattle.sizes.specs.declared.Refusal.{Refusal}
 use Rattle.sessions.specs.Session.{misplaced, isClosed, stateRefusal, continueRefusal, refusedAnswer, plainAnswer, differsAnswer, progress, advanced, continued}
 use Rattle.sessions.specs.declared.Mark.{Mark}
 use Rattle.sessions.specs.declared.Mark.the-variants.{Open, Equal, Differ}
+use Rattle.sessions.specs.declared.Continued.{Continued}
 use Rattle.sessions.specs.declared.Session.{Session}
-use Rattle.sessions.proofs.Cases.{Passed, passed}
+use Rattle.sessions.proofs.Cases.{Passed, passed, progress-each}
 use Rattle.sessions.proofs.Pair.{pair-taken, comparable}
 
 -- the answer to an accepted call is no refusal
 progress-accepts : (s₁ s₂ : List ℕ) (σ : Session) (B G q : ℕ) → progress s₁ s₂ σ B G q .answer .refusal ≡ accepted
-unfolding progress differsAnswer plainAnswer
-progress-accepts s₁ s₂ σ B G q =
-    ⊎-elim
-    (λ (e : ltb q (σ .position + min B (G - σ .position)) ≡ true). rw e)
-    (λ (e : ltb q (σ .position + min B (G - σ .position)) ≡ false).
-    ⊎-elim
-    (λ (h : leb G (σ .position + B) ≡ true). rw (e, h))
-    (λ (h : leb G (σ .position + B) ≡ false). rw (e, h))
-    (true-or-false (leb G (σ .position + B))))
-    (true-or-false (ltb q (σ .position + min B (G - σ .position))))
+unfolding differsAnswer plainAnswer
+progress-accepts s₁ s₂ σ B G q = progress-each (λ (c : Continued). c .answer .refusal ≡ accepted) s₁ s₂ σ B G q refl refl refl
 
 pub open-mark : (mark : Mark) → isClosed mark ≡ false → mark ≡ Open
 unfolding isClosed

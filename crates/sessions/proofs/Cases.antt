@@ -4,7 +4,7 @@ use mathlib.Core.Bool.{Bool, true, false, not, cond}
 use mathlib.Core.List.{List, _++_}
 use Prim.Native.Nat.{ℕ, _+_, _-_, _<_, _≤_, min}
 use native.Mathlib.Omega.{arith}
-use lib.Dec.{eqb}
+use lib.Dec.{leb, ltb, eqb}
 use lib.ListN.{length, drop, replicate}
 use borrow.Author.Tests.{lt-ltb, le-ltb, le-leb, lt-leb, ltb-true, ltb-false, not-false}
 use Rattle.engine.specs.Engine.{outputsDiffer, largerCount}
@@ -13,6 +13,7 @@ use Rattle.fields.specs.File.{sizesOf}
 use Rattle.grid.specs.Grid.{axesOf, gridSize}
 use Rattle.places.specs.Places.{vectorAt}
 use Rattle.ranges.specs.Search.{first}
+use Rattle.ranges.proofs.Search.{cond-each}
 use Rattle.sizes.specs.Sizes.{refusedBy, isRefusal}
 use Rattle.sessions.specs.Session.{sameSizes, pairRefusal, misplaced, isClosed, stateRefusal, filesRefusal, roomRefusal, continueRefusal, refusedAnswer, plainAnswer, differsAnswer, movedTo, progress, advanced, continued, continuedScratch}
 use Rattle.sessions.specs.declared.Answer.{Answer}
@@ -25,6 +26,17 @@ use Rattle.sessions.proofs.Pair.{cond-passed}
 
 abbrev pub handed : Session → Answer → Continued
 handed σ a = record { session = σ; answer = a }
+
+-- what holds of an accepted call however it ends: with a difference, equivalent, or spent
+pub progress-each :
+    (P : Continued → Type 0) (s₁ s₂ : List ℕ) (σ : Session) (B G q : ℕ) →
+    P (handed (movedTo σ (q + 1) Differ) (differsAnswer s₁ s₂ (vectorAt (axesOf (sizesOf s₁)) q) (q + 1 - σ .position))) →
+    P (handed (movedTo σ G Equal) (plainAnswer Equivalent (G - σ .position))) →
+    P (handed (movedTo σ (σ .position + B) Open) (plainAnswer Spent B)) →
+    P (progress s₁ s₂ σ B G q)
+unfolding progress
+progress-each P s₁ s₂ σ B G q differs equal spent =
+    cond-each P (ltb q (σ .position + min B (G - σ .position))) differs (cond-each P (leb G (σ .position + B)) equal spent)
 
 module _ (s₁ s₂ : List ℕ) (σ : Session) (B G count q : ℕ) (g : G ≡ gridSize (sizesOf s₁)) (n : count ≡ min B (G - σ .position))
     (e : q ≡ first (outputsDiffer s₁ s₂) (σ .position) count) where

@@ -6,9 +6,8 @@ use native.Mathlib.Nat.{mod-lt, mod-eq-of-lt, one-mul, zero-add}
 use native.Mathlib.Decide.{decLe}
 use native.Mathlib.Omega.{arith}
 use lib.Count.{leadingZeros, leading-top}
-use lib.Pow.{pow-mono}
+use lib.Pow.{pow-pos, pow-mono}
 use borrow.Author.Needs.{needs}
-use Rattle.integers.proofs.Exponent.{power-least}
 use Rattle.bound.specs.Bound.{bound, log2, greedy}
 use Rattle.bound.proofs.Computed.{log2-unique, greedy-0, greedy-step}
 use Rattle.bound.proofs.Table.{bound-most}
@@ -90,7 +89,7 @@ module _ (m v rem n : ℕ) (p : Adding m v rem n) where
           adds = adds-step ∙ p .adds;
           remains =
               let e : suc (v - 1) ≡ v = omega (arith, above a) in
-              rw e (omega (arith, mod-lt rem part-least, exact, power-least v));
+              rw e (omega (arith, mod-lt rem part-least, exact, pow-pos v));
           few = omega (arith, p .few);
         }
 
@@ -110,7 +109,7 @@ shl-a : tie.Need-shl-a Inv-loop μ-loop
 shl-a c = search needs
 
 sub-a : tie.Need-sub-a Inv-loop μ-loop
-sub-a c = let l = c .before .loop in omega (arith, power (l .v) (l .inv .few), power-least (l .v))
+sub-a c = let l = c .before .loop in omega (arith, power (l .v) (l .inv .few), pow-pos (l .v))
 
 div-n : tie.Need-div-n Inv-loop μ-loop
 div-n c = let l = c .before .loop in part-least _ (l .v) (l .rem) (l .n) (l .inv) (c .loop-test .taken)

@@ -1,6 +1,7 @@
--- The laws of algorithm 1: its logarithm is the one number that it should be; one turn of its loop; and a remainder of 0 adds no more.
+-- The laws of algorithm 1: its logarithm is the one number that it should be; one turn of its loop; a remainder of 0 adds no more; and m up to 2
+-- needs no line of its own, by computing.
 use mathlib.Core.Path.{_≡_, refl, sym, _∙_, ap, ap₂}
-use Prim.Native.Nat.{ℕ, zero, suc, _+_, _-_, _/_, _%_, _^_, _≤_, _<_}
+use Prim.Native.Nat.{ℕ, zero, suc, _+_, _-_, _*_, _/_, _%_, _^_, _≤_, _<_}
 use native.Mathlib.Nat.{zero-div, zero-mod}
 use native.Mathlib.Numerals.{add-one}
 use native.Mathlib.Omega.{arith}
@@ -9,8 +10,9 @@ use lib.Count.{leading-top}
 use lib.Dec.{ltb}
 use lib.Pow.{pow-mono}
 use Rattle.integers.proofs.Exponent.{below-power}
+use Rattle.ranges.specs.Search.{first}
 use Rattle.ranges.proofs.Search.{first-unique}
-use Rattle.bound.specs.Bound.{log2, LogTwo, greedy}
+use Rattle.bound.specs.Bound.{log2, LogTwo, greedy, bound, AsPrinted}
 
 pub log2-unique : (n v : ℕ) → 2 ^ v ≤ n → n < 2 ^ suc v → log2 n ≡ v
 unfolding log2
@@ -37,3 +39,13 @@ greedy-step zero rem h = absurd (omega arith)
 greedy-step (suc v) rem h =
     let e : suc v - 1 ≡ v = omega arith in
     ap (λ i. rem / (2 ^ suc v - 1) + greedy i (rem % (2 ^ suc v - 1))) (sym e)
+
+bound-small : (m : ℕ) → m ≤ 2 → bound m ≡ 2 * m
+unfolding bound log2 first greedy
+bound-small zero h = refl
+bound-small (suc zero) h = refl
+bound-small (suc (suc zero)) h = refl
+bound-small (suc (suc (suc m))) h = absurd (omega arith)
+
+pub asPrinted : AsPrinted
+asPrinted = record { small = bound-small; turn = greedy-step; ended = greedy-0 }

@@ -2,10 +2,12 @@
 --   IsBound m n    n is the least natural number whose factorial is divisible by 2^m
 --   log2 n         the logarithm of n to base 2, rounded down: the first v with n below 2^(v + 1)
 --   LogTwo         so 2 to its power is at most n, and to the next one is above n. Proved in proofs/Computed
---   greedy v rem   what algorithm 1 adds to n from ν = v and rem on: the quotient of rem by 2^v − 1, and with the remainder and the next lower ν so on.
---                  A remainder of 0 adds no more, so that it makes no difference that the algorithm stops there
---   bound m        L(m), by algorithm 1: from ν = log2 (1 + m) and rem = m on, m + n. For m 1 and 2, which have a line of their own there,
---                  this gives 2m too
+--   greedy v rem   what algorithm 1 adds to n from ν = v and rem on: the quotient of rem by 2^v − 1, and with the remainder and the next lower ν so on
+--   bound m        L(m), by algorithm 1: from ν = log2 (1 + m) and rem = m on, m + n
+--   AsPrinted      the lines of algorithm 1 that these leave out change nothing. Proved in proofs/Computed:
+--     small        for m up to 2, which has a line of its own there, the loop gives 2m too
+--     turn         where ν is 1 or more, greedy is one turn of the loop, and then the loop from the next lower ν on
+--     ended        a remainder of 0, at which the loop stops, adds no more
 --   bounds         L(1) to L(64), as a table
 --   maxBound       the largest of them, L(64)
 --   LargestBound   it is, and no other bound is above it. Proved in proofs/Table
@@ -16,7 +18,7 @@
 --     count        the table has 64 entries
 use mathlib.Core.Path.{_≡_}
 use mathlib.Core.List.{List, [], _∷_}
-use Prim.Native.Nat.{ℕ, zero, suc, _+_, _-_, _/_, _%_, _^_, _≤_, _<_}
+use Prim.Native.Nat.{ℕ, zero, suc, _+_, _-_, _*_, _/_, _%_, _^_, _≤_, _<_}
 use lib.Dec.{ltb}
 use lib.ListN.{length, getD}
 use Rattle.integers.specs.Modulo.{factorial}
@@ -38,6 +40,11 @@ greedy (suc v) rem = rem / (2 ^ suc v - 1) + greedy v (rem % (2 ^ suc v - 1))
 
 unfoldable pub bound : ℕ → ℕ
 bound m = m + greedy (log2 (1 + m)) m
+
+pub record AsPrinted : Type 0 where
+  pub small : (m : ℕ) → m ≤ 2 → bound m ≡ 2 * m
+  pub turn : (v rem : ℕ) → 1 ≤ v → greedy v rem ≡ rem / (2 ^ v - 1) + greedy (v - 1) (rem % (2 ^ v - 1))
+  pub ended : (v : ℕ) → greedy v 0 ≡ 0
 
 unfoldable pub bounds : List ℕ
 bounds =

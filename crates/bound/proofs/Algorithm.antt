@@ -11,13 +11,13 @@ use lib.Pow.{pow-pos}
 use Rattle.integers.specs.Modulo.{factorial}
 use Rattle.integers.proofs.Divisibility.{factorial-mod}
 use Rattle.integers.proofs.Exponent.{power-coarse}
-use Rattle.integers.proofs.Legendre.{twos, twos-exponent, twos-power, twos-at, twos-before}
+use Rattle.integers.proofs.Legendre.{twos, twos-exponent, twos-power, twos-of-power, twos-before}
 use Rattle.bound.specs.Bound.{IsBound, log2, greedy, bound, LeastBound}
 use Rattle.bound.proofs.Computed.{logTwo, greedy-0}
 
 -- a number is least where 2^m divides its factorial, and not that of the number before it: j! divides k! for j up to k
-pub least-number : (m l : ℕ) → factorial l % 2 ^ m ≡ 0 → (0 < l → ¬ (factorial (l - 1) % 2 ^ m ≡ 0)) → IsBound m l
-least-number m l whole short = record { divides = whole; least = least }
+pub bound-neighbour : (m l : ℕ) → factorial l % 2 ^ m ≡ 0 → (0 < l → ¬ (factorial (l - 1) % 2 ^ m ≡ 0)) → IsBound m l
+bound-neighbour m l whole short = record { divides = whole; least = least }
   where
     least : (k : ℕ) → factorial k % 2 ^ m ≡ 0 → l ≤ k
     least k e =
@@ -43,7 +43,7 @@ module _ (v r l : ℕ) (few : r + 1 < 2 ^ suc v) (p : Right v r l) where
         | yes h ↦ omega (arith, twos-power (suc v) l h, p .enough)
         | no n ↦
             let e : 2 ^ suc v + l ≡ 2 ^ suc (suc v) = omega (arith, p .most, two-pow-succ (suc v)) in
-            omega (arith, ap twos e, twos-at (suc (suc v)), two-pow-succ (suc v), above)
+            omega (arith, ap twos e, twos-of-power (suc (suc v)), two-pow-succ (suc v), above)
       ]
 
   once-short : twos (2 ^ suc v + l - 1) < 2 ^ suc v - 1 + r
@@ -75,7 +75,7 @@ twice v =
     let h = two-pow-succ v in
     let g = pow-pos v in
     record {
-      enough = omega (arith, twos-at (suc (suc v)));
+      enough = omega (arith, twos-of-power (suc (suc v)));
       short = λ l. omega (arith, twos-before (suc (suc v)), e, h, g);
       some = λ l. omega (arith, e, h, g);
       none = λ l. absurd (omega (arith, e, h, g));
@@ -119,7 +119,7 @@ right (suc v) r h =
 
 pub leastBound : LeastBound
 unfolding bound
-leastBound m = least-number m l (power-coarse _ m _ (p .enough) (twos-exponent l .divides)) short
+leastBound m = bound-neighbour m l (power-coarse _ m _ (p .enough) (twos-exponent l .divides)) short
   where
     l : ℕ
     l = m + greedy (log2 (1 + m)) m

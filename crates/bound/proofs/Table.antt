@@ -11,9 +11,9 @@ use lib.ListN.{getD}
 use Rattle.integers.specs.Modulo.{factorial}
 use Rattle.ranges.specs.Search.{every}
 use Rattle.ranges.proofs.Search.{every-at}
-use Rattle.bound.specs.Axes.{axis, AxisLeast}
+use Rattle.bound.specs.Axes.{axis, AxisByLeast}
 use Rattle.bound.specs.Bound.{IsBound, bounds, bound, maxBound, LargestBound, SameBound}
-use Rattle.bound.proofs.Algorithm.{least-number, leastBound}
+use Rattle.bound.proofs.Algorithm.{bound-neighbour, leastBound}
 
 -- the table's entry of m
 abbrev entry : ℕ → ℕ
@@ -62,7 +62,7 @@ module _ (m : ℕ) (low : 1 ≤ m) (high : m ≤ 64) where
 
   -- so the entry of m is its bound
   pub bound-entry : entry m ≡ bound m
-  bound-entry = bound-only m (entry m) (least-number m (entry m) whole (λ _. short))
+  bound-entry = bound-only m (entry m) (bound-neighbour m (entry m) whole (λ _. short))
 
   pub bound-least : 1 ≤ bound m
   bound-least = rw (← bound-entry) (leb-true _ _ (range .0))
@@ -78,6 +78,6 @@ pub sameBound : SameBound
 unfolding bounds
 sameBound = record { only = bound-only; listed = bound-entry; count = refl }
 
-pub axisLeast : AxisLeast
+pub axisByLeast : AxisByLeast
 unfolding axis
-axisLeast m n l p = ap (min (2 ^ n)) (sym (bound-only m l p))
+axisByLeast m n l p = ap (min (2 ^ n)) (sym (bound-only m l p))

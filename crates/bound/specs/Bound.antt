@@ -1,7 +1,7 @@
 -- The bound L(m) (document 01, 'Output, grid and order'; document 002, SF, and algorithm 1 of its appendix).
 --   IsBound m n    n is the least natural number whose factorial is divisible by 2^m
 --   log2 n         the logarithm of n to base 2, rounded down: the first v with n below 2^(v + 1)
---   LogTwo         so 2 to its power is at most n, and to the next one is above n. Proved in proofs/Computed
+--   LogTwo         so, for n of 1 or more: 2 to the power log2 n is at most n, and the next power of 2 is above n. Proved in proofs/Computed
 --   greedy v rem   what algorithm 1 adds to n from ν = v and rem on: the quotient of rem by 2^v − 1, and with the remainder and the next lower ν so on
 --   bound m        L(m), by algorithm 1: from ν = log2 (1 + m) and rem = m on, m + n
 --   AsPrinted      the lines of algorithm 1 that these leave out change nothing. Proved in proofs/Computed:

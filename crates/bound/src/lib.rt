@@ -71,16 +71,16 @@ const BOUNDS: [u64; 64] = [
     66,
 ];
 
-// L(m) by the table, for m from 1 to 64.
-pub fn listed_bound(m: u64) -> u64
+// L(m) by the table, for m from 1 to 64. No grid and no answer is made of it.
+fn listed_bound(m: u64) -> u64
     requires { ⌜ (1 ≤ m) × (m ≤ 64) ⌝ }
     ensures { λ r. ⌜ r ≡ bound m ⌝ }
 {
     BOUNDS[(m - 1) as usize]
 }
 
-// L(m) by algorithm 1 of document 002, for m from 1 to 64: m and the quotients of what remains of it by 2^v - 1, for v
-// from the logarithm of 1 + m down.
+// L(m) by algorithm 1 of document 002, for m from 1 to 64: m plus the quotients of what remains of it by 2^v - 1, for
+// v from the logarithm of 1 + m down.
 pub fn bound(m: u64) -> u64
     requires { ⌜ (1 ≤ m) × (m ≤ 64) ⌝ }
     ensures { λ r. ⌜ r ≡ bound m ⌝ }

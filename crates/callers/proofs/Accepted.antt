@@ -13,14 +13,14 @@ use Rattle.bound.specs.Axes.{axis}
 use Rattle.bound.specs.Bound.{IsBound, bound}
 use Rattle.bound.specs.Quotients.{halvings, Exponents}
 use Rattle.bound.proofs.Algorithm.{leastBound}
-use Rattle.bound.proofs.Table.{axisLeast}
-use Rattle.bound.proofs.Quotients.{halvingsListed, boundExponents}
+use Rattle.bound.proofs.Table.{axisByLeast}
+use Rattle.bound.proofs.Quotients.{boundExponents}
 use Rattle.evaluate.specs.Evaluate.{refusalAt, evaluatedAt, evaluatedScratch}
 use Rattle.evaluate.specs.declared.Evaluated.{Evaluated as Answer}
 use Rattle.evaluate.proofs.Answers.{answer-accepted}
 use Rattle.figures.specs.Figures.{figuresOf, boundAnswered, boundRefused}
 use Rattle.figures.specs.declared.Figures.{Figures}
-use Rattle.figures.proofs.Exactly.{figuresExactly}
+use Rattle.figures.proofs.Exactly.{figures-inside, figures-outside}
 use Rattle.file.specs.Accepted.{Accepted}
 use Rattle.file.specs.Check.{fileNumber, refusalOf}
 use Rattle.fields.specs.File.{sizesOf, stepCount}
@@ -40,7 +40,7 @@ use Rattle.layouts.specs.SessionWords.{sessionFrom}
 use Rattle.layouts.specs.SizeWords.{sizeWords, sizesFrom}
 use Rattle.layouts.proofs.Sessions.{file-widths, file-bytes}
 use Rattle.layouts.proofs.Sizes.{sizesAsWords}
-use Rattle.lists.specs.Lists.{total}
+use Rattle.lists.specs.Lists.{sumOf}
 use Rattle.lists.proofs.Lists.{map-entry}
 use Rattle.session_calls.specs.SessionCalls.{continueFits, continuing, ContinueCall}
 use Rattle.sessions.specs.Calls.{answerTo}
@@ -113,10 +113,10 @@ module _ (m : ℕ) (o o′ : List ℕ) (h : BoundCall m o 1 o′) where
   bound-said f e = wrote (has 10 o) _ o o′ (h .result) (h .out) ∙ ap figureWords e
 
   inside : From1To64 m → o′ ≡ 0 ∷ 0 ∷ 0 ∷ bound m ∷ halvings (bound m)
-  inside r = bound-said (boundAnswered m) (figuresExactly .inside m (r .low, r .high))
+  inside r = bound-said (boundAnswered m) (figures-inside m (r .low, r .high))
 
   outside : ¬ From1To64 m → o′ ≡ 2 ∷ replicate 9 0
-  outside n = bound-said boundRefused (figuresExactly .outside m (λ p. n (record { low = p .0; high = p .1 })))
+  outside n = bound-said boundRefused (figures-outside m (λ p. n (record { low = p .0; high = p .1 })))
 
   in-range : wordAt o′ 0 ≡ 0 → From1To64 m
   in-range z = elim (decLe 1 m) [
@@ -141,11 +141,11 @@ module _ (m : ℕ) (o o′ : List ℕ) (h : BoundCall m o 1 o′) where
       record {
         range = (in-range, λ r. first (inside r));
         least = of-words (λ n q. IsBound m n) (λ r. leastBound m);
-        quotients =
-            of-words (λ n q. q ≡ n / 2 ∷ n / 4 ∷ n / 8 ∷ n / 16 ∷ n / 32 ∷ n / 64 ∷ []) (λ r. halvingsListed (bound m));
-        exponent = of-words (λ n q. IsExponent (factorial n) (total q)) (λ r. exponents r .reached);
-        enough = of-words (λ n q. m ≤ total q) (λ r. exponents r .enough);
-        short = of-words (λ n q. total (halvings (n - 1)) < m) (λ r. exponents r .short);
+        quotients = of-words (λ n q. q ≡ halvings n) (λ r. refl);
+        exponent = of-words (λ n q. IsExponent (factorial n) (sumOf q)) (λ r. exponents r .reached);
+        enough = of-words (λ n q. m ≤ sumOf q) (λ r. exponents r .enough);
+        before = of-words (λ n q. IsExponent (factorial (n - 1)) (sumOf (halvings (n - 1)))) (λ r. exponents r .before);
+        short = of-words (λ n q. sumOf (halvings (n - 1)) < m) (λ r. exponents r .short);
         outside = outside;
       }
 
@@ -198,16 +198,16 @@ module _ (f o o′ : List ℕ) (h : GridCall f o 1 o′) where
         ∙ ap (λ k. getD (us ++ replicate (8 - k) 0) i 0) (sym axes-count)
         ∙ padded-entry us i
 
-    values-least :
+    axes-smaller :
         (i : ℕ) → i < sizesOf f .d → (l : ℕ) → IsBound (sizesOf f .m) l → wordAt o′ (3 + i) ≡ min (2 ^ getD (sizesOf f .widths) i 0) l
     unfolding axesOf
-    values-least i h l b =
+    axes-smaller i h l b =
         let z = sizesOf f in
         word-entry i (omega (arith, sound .inputsHigh))
         ∙ map-entry (axis (z .m)) (take (z .d) (z .widths)) i
         (simp length-take (omega (arith, h, file-widths f (sound .long), sound .inputsHigh)))
         ∙ ap (axis (z .m)) (getD-take (z .d) (z .widths) i 0 h)
-        ∙ axisLeast (z .m) (getD (z .widths) i 0) l b
+        ∙ axisByLeast (z .m) (getD (z .widths) i 0) l b
 
     others-zero : (i : ℕ) → sizesOf f .d ≤ i → i < 8 → wordAt o′ (3 + i) ≡ 0
     others-zero i low high = word-entry i high ∙ List·getD-eq-default us 0 (omega (arith, axes-count))
@@ -217,7 +217,7 @@ module _ (f o o′ : List ℕ) (h : GridCall f o 1 o′) where
 
   gridded : Gridded f o′
   gridded =
-      record { number = grid-number; axes = axes-first; values = values-least; others = others-zero; size = size-last; none = no-grid }
+      record { number = grid-number; axes = axes-first; smaller = axes-smaller; others = others-zero; size = size-last; none = no-grid }
 
 module _ (f x s o s′ o′ : List ℕ) (h : EvaluateCall f x s o 1 s′ o′) (zero : wordAt o′ 0 ≡ 0) where
   evaluate-said : o′ ≡ evaluateWords (evaluatedAt f x (length s))

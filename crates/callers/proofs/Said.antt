@@ -1,8 +1,7 @@
 -- The refusal words of a C call that returned 1: they are the words of the library's refusal, and a refusal with the number 0 shows no file and
 -- no step, since each definition picks one of those that show none, or what a file is refused by, whose number is then not 0.
-use mathlib.Core.Bool.{Bool, true, false, not, cond}
+use mathlib.Core.Bool.{not}
 use mathlib.Core.List.{List, [], _∷_, _++_}
-use mathlib.Core.Logic.{⊎-elim}
 use mathlib.Core.Path.{_≡_, refl, sym, _∙_, ap}
 use Prim.Native.Nat.{ℕ}
 use native.Mathlib.Decide.{ℕ-discrete}
@@ -11,7 +10,7 @@ use lib.ListN.{length}
 use borrow.Author.Tests.{eq-eqb, ne-eqb}
 use Rattle.evaluate.specs.Evaluate.{shortScratch, badVector, refusalAt, evaluatedAt}
 use Rattle.figures.specs.Figures.{figuresOf}
-use Rattle.figures.proofs.Exactly.{figures-accepted, figures-refused}
+use Rattle.figures.specs.declared.Figures.{Figures}
 use Rattle.file.specs.Check.{fileNumber, refusalOf}
 use Rattle.fields.specs.File.{sizesOf, stepCount}
 use Rattle.grid.specs.Grid.{gridSize, gridOf}
@@ -22,7 +21,7 @@ use Rattle.layouts.specs.Layout.{has}
 use Rattle.layouts.specs.Lengths.{wordAt}
 use Rattle.layouts.specs.SessionWords.{sessionFrom}
 use Rattle.layouts.specs.SizeWords.{sizesFrom}
-use Rattle.ranges.proofs.Search.{true-or-false, cond-each}
+use Rattle.ranges.proofs.Search.{cond-each}
 use Rattle.session_calls.specs.SessionCalls.{openFits, continueFits, continuing, ContinueCall}
 use Rattle.sessions.specs.Session.{sameSizes, pairRefusal, opened, continueRefusal}
 use Rattle.sessions.specs.declared.Answer.{Answer}
@@ -45,9 +44,6 @@ record Plain (q : Refusal) : Type 0 where
 plain-by : (n : ℕ) → Plain (refusedBy n)
 plain-by n = record { passes = λ e. ap refusedBy e }
 
-plain-cond : (b : Bool) {p q : Refusal} → Plain p → Plain q → Plain (cond b p q)
-plain-cond = cond-each Plain
-
 plain-file : (w : ℕ) (s : List ℕ) → Plain (refusalOf w s)
 unfolding refusalOf
 plain-file w s =
@@ -59,33 +55,33 @@ plain-file w s =
 plain-at : (s x : List ℕ) (len : ℕ) → Plain (refusalAt s x len)
 unfolding refusalAt
 plain-at s x len =
-    plain-cond (eqb (fileNumber s) 0)
-    (plain-cond (shortScratch (stepCount s) len) (plain-by 12)
-    (plain-cond (badVector (sizesOf s) x) (plain-by 14) (plain-by 0)))
+    cond-each Plain (eqb (fileNumber s) 0)
+    (cond-each Plain (shortScratch (stepCount s) len) (plain-by 12)
+    (cond-each Plain (badVector (sizesOf s) x) (plain-by 14) (plain-by 0)))
     (plain-file 1 s)
 
 plain-table : (s : List ℕ) (room len : ℕ) → Plain (tableRefusal s room len)
 unfolding tableRefusal
 plain-table s room len =
-    plain-cond (eqb (fileNumber s) 0)
-    (plain-cond (shortScratch (stepCount s) room) (plain-by 12)
-    (plain-cond (shortSlice (gridSize (sizesOf s)) len) (plain-by 13) (plain-by 0)))
+    cond-each Plain (eqb (fileNumber s) 0)
+    (cond-each Plain (shortScratch (stepCount s) room) (plain-by 12)
+    (cond-each Plain (shortSlice (gridSize (sizesOf s)) len) (plain-by 13) (plain-by 0)))
     (plain-file 1 s)
 
 plain-cells : (z : Sizes) (cells : List ℕ) (len : ℕ) → Plain (cellsRefusal z cells len)
 unfolding cellsRefusal
 plain-cells z cells len =
-    plain-cond (badOutput z) (plain-by 2)
-    (plain-cond (badInputs z) (plain-by 3)
-    (plain-cond (badWidths z) (plain-by 5)
-    (plain-cond (badCells z cells len) (plain-by 13) (plain-by 0))))
+    cond-each Plain (badOutput z) (plain-by 2)
+    (cond-each Plain (badInputs z) (plain-by 3)
+    (cond-each Plain (badWidths z) (plain-by 5)
+    (cond-each Plain (badCells z cells len) (plain-by 13) (plain-by 0))))
 
 plain-pair : (s₁ s₂ : List ℕ) → Plain (pairRefusal s₁ s₂)
 unfolding pairRefusal
 plain-pair s₁ s₂ =
-    plain-cond (not (eqb (fileNumber s₁) 0)) (plain-file 1 s₁)
-    (plain-cond (not (eqb (fileNumber s₂) 0)) (plain-file 2 s₂)
-    (plain-cond (not (sameSizes (sizesOf s₁) (sizesOf s₂))) (plain-by 9) (plain-by 0)))
+    cond-each Plain (not (eqb (fileNumber s₁) 0)) (plain-file 1 s₁)
+    (cond-each Plain (not (eqb (fileNumber s₂) 0)) (plain-file 2 s₂)
+    (cond-each Plain (not (sameSizes (sizesOf s₁) (sizesOf s₂))) (plain-by 9) (plain-by 0)))
 
 plain-continue : (s₁ s₂ : List ℕ) (σ : Session) (B len : ℕ) → Plain (continueRefusal s₁ s₂ σ B len)
 plain-continue s₁ s₂ σ B len = record { passes = λ e. passed-accepted s₁ s₂ σ B len (passed s₁ s₂ σ B len (ap not (eq-eqb _ 0 e))) }
@@ -95,11 +91,8 @@ unfolding opened
 plain-opened s₁ s₂ = plain-pair s₁ s₂
 
 plain-bound : (m : ℕ) → Plain (figuresOf m .refusal)
-plain-bound m =
-    ⊎-elim
-    (λ (e : outputLength m ≡ true). rw (figures-accepted m e) (plain-by 0))
-    (λ (e : outputLength m ≡ false). rw (figures-refused m e) (plain-by 2))
-    (true-or-false (outputLength m))
+unfolding figuresOf
+plain-bound m = cond-each (λ (f : Figures). Plain (f .refusal)) (outputLength m) (plain-by 0) (plain-by 2)
 
 -- words that begin with a refusal's say it
 says : (q : Refusal) (o rest : List ℕ) → o ≡ refusalWords q ++ rest → Plain q → Says q o

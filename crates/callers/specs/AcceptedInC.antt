@@ -14,12 +14,13 @@
 --     quotients    words 4 to 9 are word 3 divided by 2, 4, 8, 16, 32 and 64, each rounded down
 --     exponent     they add up to the exponent of two in the factorial of word 3
 --     enough       which is m or more
---     short        the quotients of one less than word 3 add up to less than m
+--     before       the quotients of one less than word 3 add up to the exponent of two in its factorial
+--     short        which is less than m
 --     outside      where m is not from 1 to 64 the number word is 2, and the others are 0
 --   Gridded f o′         of corkbingo_grid:
 --     number       the number word is the file's number
 --     axes         where it is 0, the first d words from word 3 on are the axes
---     values       each of these is the smaller of 2^n, for its input's word length n, and the least number whose factorial is divisible by 2^m
+--     smaller      each of these is the smaller of 2^n, for its input's word length n, and the least number whose factorial is divisible by 2^m
 --     others       the other words of the eight from word 3 on are 0
 --     size         and word 11 is G
 --     none         in a refusal all words from word 3 on are 0
@@ -56,7 +57,7 @@ use Rattle.integers.specs.Exponent.{IsExponent}
 use Rattle.integers.specs.Modulo.{factorial}
 use Rattle.layouts.specs.Lengths.{wordAt}
 use Rattle.layouts.specs.SizeWords.{sizeWords, sizesFrom}
-use Rattle.lists.specs.Lists.{total}
+use Rattle.lists.specs.Lists.{sumOf}
 use Rattle.session_calls.specs.SessionCalls.{ContinueCall}
 use Rattle.sizes.specs.declared.Sizes.{Sizes}
 use Rattle.table_calls.specs.TableCalls.{TableCall, DifferenceCall, SumCall}
@@ -79,16 +80,17 @@ pub record From1To64 (m : ℕ) : Type 0 where
 pub record Bounded (m : ℕ) (o′ : List ℕ) : Type 0 where
   pub range : (wordAt o′ 0 ≡ 0) ↔ From1To64 m
   pub least : wordAt o′ 0 ≡ 0 → IsBound m (wordAt o′ 3)
-  pub quotients : wordAt o′ 0 ≡ 0 → let n = wordAt o′ 3 in drop 4 o′ ≡ n / 2 ∷ n / 4 ∷ n / 8 ∷ n / 16 ∷ n / 32 ∷ n / 64 ∷ []
-  pub exponent : wordAt o′ 0 ≡ 0 → IsExponent (factorial (wordAt o′ 3)) (total (drop 4 o′))
-  pub enough : wordAt o′ 0 ≡ 0 → m ≤ total (drop 4 o′)
-  pub short : wordAt o′ 0 ≡ 0 → total (halvings (wordAt o′ 3 - 1)) < m
+  pub quotients : wordAt o′ 0 ≡ 0 → drop 4 o′ ≡ halvings (wordAt o′ 3)
+  pub exponent : wordAt o′ 0 ≡ 0 → IsExponent (factorial (wordAt o′ 3)) (sumOf (drop 4 o′))
+  pub enough : wordAt o′ 0 ≡ 0 → m ≤ sumOf (drop 4 o′)
+  pub before : wordAt o′ 0 ≡ 0 → IsExponent (factorial (wordAt o′ 3 - 1)) (sumOf (halvings (wordAt o′ 3 - 1)))
+  pub short : wordAt o′ 0 ≡ 0 → sumOf (halvings (wordAt o′ 3 - 1)) < m
   pub outside : ¬ From1To64 m → o′ ≡ 2 ∷ replicate 9 0
 
 pub record Gridded (f o′ : List ℕ) : Type 0 where
   pub number : wordAt o′ 0 ≡ fileNumber f
   pub axes : wordAt o′ 0 ≡ 0 → take (sizesOf f .d) (drop 3 o′) ≡ axesOf (sizesOf f)
-  pub values :
+  pub smaller :
       wordAt o′ 0 ≡ 0 → (i : ℕ) → i < sizesOf f .d → (l : ℕ) → IsBound (sizesOf f .m) l →
       wordAt o′ (3 + i) ≡ min (2 ^ getD (sizesOf f .widths) i 0) l
   pub others : wordAt o′ 0 ≡ 0 → (i : ℕ) → sizesOf f .d ≤ i → i < 8 → wordAt o′ (3 + i) ≡ 0

@@ -1,8 +1,8 @@
 // The figures of an output word length: its bound, and the quotients by which the bound can be followed by hand.
 use bound::bound;
 use sizes::Refusal;
+use sizes::is_output_length;
 use sizes::refused_by;
-use sizes::within;
 ghost use mathlib.Core.Path.{_≡_};
 ghost use Rattle.bound.specs.Quotients.{halvings};
 ghost use Rattle.figures.specs.Figures.{figuresOf};
@@ -29,7 +29,7 @@ fn halvings(n: u64) -> [u64; QUOTIENTS]
 pub fn figures_of(m: u64) -> Figures
     ensures { λ r. ⌜ r ≡ figuresOf m ⌝ }
 {
-    if !within(1, 64, m) {
+    if !is_output_length(m) {
         return Figures {
             refusal: refused_by(2),
             bound: 0,

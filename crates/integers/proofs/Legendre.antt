@@ -7,7 +7,7 @@ use native.Mathlib.Decide.{decLe, decLt}
 use native.Mathlib.Omega.{arith}
 use lib.Dec.{lit<}
 use lib.Pow.{pow-pos, pow-add}
-use Rattle.lists.specs.Lists.{tabulate, total}
+use Rattle.lists.specs.Lists.{tabulate, sumOf}
 use Rattle.integers.specs.Exponent.{IsExponent, quotients, Legendre}
 use Rattle.integers.specs.Modulo.{factorial}
 use Rattle.integers.proofs.Exponent.{power-coarse, exponent-most, exponent, exponent-odd, exponent-unique, exponent-product, below-next}
@@ -44,11 +44,11 @@ module _ (n M : ℕ) (h : 0 < M) where
 
 -- the quotients of n by 2^i for the k numbers i from j on
 abbrev sum : ℕ → ℕ → ℕ → ℕ
-sum n j k = total (tabulate (λ i. n / 2 ^ i) j k)
+sum n j k = sumOf (tabulate (λ i. n / 2 ^ i) j k)
 
 -- as many of these i as are at most the exponent let the quotient grow
 grown : (n e : ℕ) → IsExponent (suc n) e → (j k : ℕ) → sum (suc n) j k ≡ sum n j k + (min (j + k) (e + 1) - j)
-unfolding tabulate total
+unfolding tabulate sumOf
 grown n e p j zero = omega arith
 grown n e p j (suc k) =
     elim (decLe j e) [
@@ -57,7 +57,7 @@ grown n e p j (suc k) =
     ]
 
 none : (j k : ℕ) → sum 0 j k ≡ 0
-unfolding tabulate total
+unfolding tabulate sumOf
 none j zero = refl
 none j (suc k) = omega (arith, zero-div (2 ^ j), none (j + 1) k)
 
@@ -77,18 +77,18 @@ legendre (suc n) k h =
 
 -- the exponent of two in n!
 pub twos : ℕ → ℕ
-twos n = total (quotients n n)
+twos n = sumOf (quotients n n)
 
 pub twos-exponent : (n : ℕ) → IsExponent (factorial n) (twos n)
 unfolding twos
 twos-exponent n = legendre n n (below-next n)
 
-pub twos-quotients : (n k : ℕ) → n < 2 ^ (k + 1) → twos n ≡ total (quotients n k)
-twos-quotients n k h = exponent-unique (factorial n) (twos n) (total (quotients n k)) (twos-exponent n) (legendre n k h)
+twos-quotients : (n k : ℕ) → n < 2 ^ (k + 1) → twos n ≡ sumOf (quotients n k)
+twos-quotients n k h = exponent-unique (factorial n) (twos n) (sumOf (quotients n k)) (twos-exponent n) (legendre n k h)
 
 -- 2^v adds 2^(v − i) to the quotient by 2^i
 sum-power : (v x j k : ℕ) → j + k ≡ suc v → sum (2 ^ v + x) j k ≡ sum x j k + (2 ^ k - 1)
-unfolding tabulate total
+unfolding tabulate sumOf
 sum-power v x j zero h = omega arith
 sum-power v x j (suc k) h =
     let p : 2 ^ v ≡ 2 ^ j * 2 ^ k = ap (λ i. 2 ^ i) (omega arith) ∙ pow-add 2 j k in
@@ -111,8 +111,8 @@ twos-power v x h =
     q : 2 ^ (v + 1) ≡ 2 ^ v + 2 ^ v
     q = ap (λ i. 2 ^ i) (omega arith) ∙ two-pow-succ v
 
-pub twos-at : (v : ℕ) → twos (2 ^ v) ≡ 2 ^ v - 1
-twos-at v =
+pub twos-of-power : (v : ℕ) → twos (2 ^ v) ≡ 2 ^ v - 1
+twos-of-power v =
     let e : 2 ^ v ≡ 2 ^ v + 0 = omega arith in
     ap twos e ∙ twos-power v 0 (pow-pos v) ∙ omega (arith, twos-none)
 
@@ -124,4 +124,4 @@ twos-before v =
     let e : 2 ^ v * 1 ≡ suc b = omega (arith, pow-pos v) in
     let f : suc b ≡ 2 ^ v = omega (arith, pow-pos v) in
     let p = exponent-product (suc b) (factorial b) v (twos b) (subst (λ n. IsExponent n v) e (exponent-odd v 1 refl)) (twos-exponent b) in
-    omega (arith, exponent-unique (factorial (suc b)) (v + twos b) (twos (suc b)) p (twos-exponent (suc b)), ap twos f, twos-at v)
+    omega (arith, exponent-unique (factorial (suc b)) (v + twos b) (twos (suc b)) p (twos-exponent (suc b)), ap twos f, twos-of-power v)

@@ -8,7 +8,7 @@
 use mathlib.Core.List.{List}
 use mathlib.Core.Path.{_≡_}
 use Prim.Native.Nat.{ℕ, _+_, _/_, _%_, _^_, _≤_, _<_}
-use Rattle.lists.specs.Lists.{tabulate, total}
+use Rattle.lists.specs.Lists.{tabulate, sumOf}
 use Rattle.integers.specs.Modulo.{factorial}
 
 pub record IsExponent (n e : ℕ) : Type 0 where
@@ -19,4 +19,4 @@ unfoldable pub quotients : ℕ → ℕ → List ℕ
 quotients n k = tabulate (λ i. n / 2 ^ i) 1 k
 
 abbrev pub Legendre : Type 0
-Legendre = (n k : ℕ) → n < 2 ^ (k + 1) → IsExponent (factorial n) (total (quotients n k))
+Legendre = (n k : ℕ) → n < 2 ^ (k + 1) → IsExponent (factorial n) (sumOf (quotients n k))

@@ -4,6 +4,7 @@ ghost use Prim.Native.Nat.{_<_};
 ghost use Rattle.sizes.specs.Sizes.{
   within,
   maxInputs,
+  outputLength,
   badOutput,
   badInputs,
   badWidths,
@@ -49,12 +50,19 @@ pub fn within(low: u64, high: u64, n: u64) -> bool
     n <= high
 }
 
+// Whether m is what condition 2 asks for: 1 to 64.
+pub fn is_output_length(m: u64) -> bool
+    ensures { λ r. ⌜ r ≡ outputLength m ⌝ }
+{
+    within(1, 64, m)
+}
+
 // Whether m breaks condition 2: it is not 1 to 64.
 pub fn bad_output(z: Sizes) -> bool
     ensures { λ r. ⌜ r ≡ badOutput z ⌝ }
 {
     let m = z.m as u64;
-    !within(1, 64, m)
+    !is_output_length(m)
 }
 
 // Whether d breaks condition 3: it is not 1 to INPUTS.

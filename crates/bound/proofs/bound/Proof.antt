@@ -2,11 +2,12 @@
 -- what remains is below 2^(v + 1) − 1, so that a remainder other than 0 has a v above 0. Assumes nothing.
 use mathlib.Core.Path.{_≡_, sym, _∙_, ap}
 use Prim.Native.Nat.{ℕ, suc, _+_, _*_, _-_, _/_, _%_, _^_, _≤_, _<_}
-use native.Mathlib.Nat.{mod-lt, mod-eq-of-lt, one-mul, zero-add}
+use native.Mathlib.Nat.{mod-lt, one-mul, zero-add}
 use native.Mathlib.Decide.{decLe}
 use native.Mathlib.Omega.{arith}
 use lib.Count.{leadingZeros, leading-top}
-use lib.Pow.{pow-pos, pow-mono}
+use lib.Dec.{lit<}
+use lib.Pow.{pow-pos, pow-mono, shl-exact}
 use borrow.Author.Needs.{needs}
 use Rattle.bound.specs.Bound.{bound, log2, greedy}
 use Rattle.bound.proofs.Computed.{log2-unique, greedy-0, greedy-step}
@@ -54,7 +55,7 @@ abbrev part : ℕ → ℕ
 part v = 1 * 2 ^ v % 2 ^ 32 - 1
 
 power : (v : ℕ) → v ≤ 6 → 1 * 2 ^ v % 2 ^ 32 ≡ 2 ^ v
-power v h = mod-eq-of-lt (omega (arith, one-mul (2 ^ v), pow-mono {i = v} {j = 6} h)) ∙ one-mul (2 ^ v)
+power v h = shl-exact 1 v 32 (lit< tt) (omega arith) ∙ one-mul (2 ^ v)
 
 module _ (m v rem n : ℕ) (p : Adding m v rem n) where
   -- no more is added than to the largest bound

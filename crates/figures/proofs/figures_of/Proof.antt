@@ -10,19 +10,19 @@ use borrow.Author.Needs.{needs}
 use Rattle.figures.proofs.figures_of.Statement.{statement}
 use Rattle.figures.proofs.figures_of.Tie as tie
 
-within-requires : tie.Need-within-requires
-within-requires c κs = search needs
+is-output-length-requires : tie.Need-is-output-length-requires
+is-output-length-requires c κs = search needs
 
 refused-by-requires : tie.Need-refused-by-requires
 refused-by-requires c κs = search needs
 
 returns : tie.Need-returns
 returns c =
-    let n = sym (c .before .before .within .ensures) ∙ not-true _ (c .before .if1 .taken) in
+    let n = sym (c .before .before .is-output-length .ensures) ∙ not-true _ (c .before .if1 .taken) in
     (λ j. record { refusal = c .refused-by .ensures j; bound = 0; quotients = replicate 6 0 }) ∙ sym (figures-refused _ n)
 
 bound-requires : tie.Need-bound-requires
-bound-requires c κs = within-range 1 64 _ (sym (c .before .within .ensures) ∙ not-false _ (c .if1 .left))
+bound-requires c κs = within-range 1 64 _ (sym (c .before .is-output-length .ensures) ∙ not-false _ (c .if1 .left))
 
 refused-by-requires-2 : tie.Need-refused-by-requires-2
 refused-by-requires-2 c κs = search needs
@@ -34,7 +34,7 @@ returns-2 : tie.Need-returns-2
 returns-2 c =
     let b = c .before .before .bound in
     let inner = c .before .before .before in
-    let y = sym (inner .before .within .ensures) ∙ not-false _ (inner .if1 .left) in
+    let y = sym (inner .before .is-output-length .ensures) ∙ not-false _ (inner .if1 .left) in
     let q = c .halvings .ensures ∙ ap halvings (b .ensures) in
     (λ j. record { refusal = c .before .refused-by2 .ensures j; bound = b .ensures j; quotients = q j }) ∙ sym (figures-accepted _ y)
 
@@ -42,7 +42,7 @@ pub figures-of-spec : {M : Type 1} → statement M
 figures-of-spec =
     tie.close
     (tie.spec
-    within-requires
+    is-output-length-requires
     refused-by-requires
     returns
     bound-requires

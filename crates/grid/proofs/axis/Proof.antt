@@ -2,15 +2,16 @@
 -- Assumes nothing.
 use mathlib.Core.Path.{_≡_, sym, _∙_}
 use Prim.Native.Nat.{ℕ, _*_, _%_, _^_, _<_}
-use native.Mathlib.Nat.{one-mul, mod-eq-of-lt, min-eq-left, min-eq-right}
+use native.Mathlib.Nat.{one-mul, min-eq-left, min-eq-right}
 use native.Mathlib.Omega.{arith}
-use lib.Pow.{pow-lt, pow-mono}
+use lib.Dec.{lit<}
+use lib.Pow.{pow-mono, shl-exact}
 use borrow.Author.Needs.{needs}
 use Rattle.grid.proofs.axis.Statement.{statement}
 use Rattle.grid.proofs.axis.Tie as tie
 
 narrow : (n : ℕ) → n < 7 → 1 * 2 ^ n % 2 ^ 64 ≡ 2 ^ n
-narrow n h = mod-eq-of-lt (omega (arith, one-mul (2 ^ n), pow-lt h)) ∙ one-mul (2 ^ n)
+narrow n h = shl-exact 1 n 64 (lit< tt) (omega arith) ∙ one-mul (2 ^ n)
 
 returns : tie.Need-returns
 returns c = (sym (min-eq-right (omega (arith, c .before .pre, pow-mono (c .if1 .taken)))), c .before .pre)

@@ -50,9 +50,10 @@ use Rattle.sessions.proofs.Step.{answer-refusal}
 use Rattle.sizes.specs.Sizes.{accepted, isRefusal}
 use Rattle.sizes.specs.declared.Refusal.{Refusal}
 use Rattle.sizes.specs.declared.Sizes.{Sizes}
+use Rattle.sizes.proofs.Judged.{number-of}
 use Rattle.table_calls.specs.TableCalls.{cellsFit, TableCall, DifferenceCall, SumCall}
 use Rattle.cells.specs.Cells.{cellsRefusal}
-use Rattle.cells.proofs.Answers.{passed, at-0, fits}
+use Rattle.cells.proofs.Answers.{cells-accepted, cells-taken}
 use Rattle.demand2.specs.Demand2.{HoldsCells}
 use Rattle.demand2.proofs.Demand2.{sumOfMade, differenceOfSum, sumOfDifference}
 use Rattle.file_tables.specs.FileTables.{tableRefusal, madeTable, tableScratch}
@@ -66,12 +67,9 @@ use Rattle.callers.proofs.Refused.{right-told, right-left}
 pub wrote : (b : Bool) (after before slice : List ℕ) → 1 ≡ returned b → slice ≡ leaves b after before → slice ≡ after
 wrote b after before slice r e = right-left b after before slice e (right-told 1 b r refl)
 
--- the first word of a list, and the number of a refusal
+-- the first word of a list
 first : {w v : List ℕ} → w ≡ v → wordAt w 0 ≡ wordAt v 0
 first e = ap (λ l. wordAt l 0) e
-
-number-of : {r q : Refusal} → r ≡ q → r .number ≡ q .number
-number-of e = ap (λ (r : Refusal). r .number) e
 
 module _ (f o o′ : List ℕ) (h : CheckCall f o 1 o′) where
   check-said : o′ ≡ refusalWords (refusalOf 1 f)
@@ -319,9 +317,7 @@ module _ (z x y q y′ q′ : List ℕ) (v : Sizes) (c w : List ℕ) (same : siz
 
 -- a call of which the number is 0 is accepted
 cells-passed : (z : Sizes) (cells : List ℕ) (len : ℕ) → cellsRefusal z cells len .number ≡ 0 → cellsRefusal z cells len ≡ accepted
-cells-passed z cells len e =
-    let p = passed z cells len e in
-    at-0 z cells len (p .output) (p .inputs) (p .widths) (fits z cells len (p .fits))
+cells-passed z cells len e = cells-accepted z cells len (cells-taken z cells len e)
 
 sum-of-table : SumOfTableInC
 sum-of-table f s t o s′ t′ o′ h zero y q y′ q′ k room =

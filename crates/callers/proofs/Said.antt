@@ -28,7 +28,7 @@ use Rattle.sessions.specs.declared.Answer.{Answer}
 use Rattle.sessions.specs.declared.Session.{Session}
 use Rattle.sessions.proofs.Carried.{passed-accepted, carried}
 use Rattle.sessions.proofs.Cases.{passed}
-use Rattle.sizes.specs.Sizes.{outputLength, badOutput, badInputs, badWidths, refusedBy, accepted}
+use Rattle.sizes.specs.Sizes.{outputLength, badOutput, badInputs, badWidths, refusedBy, accepted, accepts, sizesRefusal}
 use Rattle.sizes.specs.declared.Refusal.{Refusal}
 use Rattle.sizes.specs.declared.Sizes.{Sizes}
 use Rattle.table_calls.specs.TableCalls.{cellsFit}
@@ -68,13 +68,19 @@ plain-table s room len =
     (cond-each Plain (shortSlice (gridSize (sizesOf s)) len) (plain-by 13) (plain-by 0)))
     (plain-file 1 s)
 
+plain-sizes : (z : Sizes) → Plain (sizesRefusal z)
+unfolding sizesRefusal
+plain-sizes z =
+    cond-each Plain (badOutput z) (plain-by 2)
+    (cond-each Plain (badInputs z) (plain-by 3)
+    (cond-each Plain (badWidths z) (plain-by 5) (plain-by 0)))
+
 plain-cells : (z : Sizes) (cells : List ℕ) (len : ℕ) → Plain (cellsRefusal z cells len)
 unfolding cellsRefusal
 plain-cells z cells len =
-    cond-each Plain (badOutput z) (plain-by 2)
-    (cond-each Plain (badInputs z) (plain-by 3)
-    (cond-each Plain (badWidths z) (plain-by 5)
-    (cond-each Plain (badCells z cells len) (plain-by 13) (plain-by 0))))
+    cond-each Plain (accepts (sizesRefusal z))
+    (cond-each Plain (badCells (z .m) (gridSize z) cells len) (plain-by 13) (plain-by 0))
+    (plain-sizes z)
 
 plain-pair : (s₁ s₂ : List ℕ) → Plain (pairRefusal s₁ s₂)
 unfolding pairRefusal

@@ -1,44 +1,42 @@
--- The cases of what differencing and summing refuse: each refusal under the tests that led to it, and what an answer of number 0 tells. By the
--- tests of the definitions.
-use mathlib.Core.Path.{_≡_, refl, _∙_, ap}
-use mathlib.Core.Bool.{Bool, true, false, not, cond, _||_, true≢false}
+-- The cases of what differencing and summing refuse: 13 by the tests that led to it, each refusal under what was judged before it, and what an
+-- answer of number 0 tells.
+use mathlib.Core.Path.{_≡_, refl, sym, _∙_, ap}
+use mathlib.Core.Bool.{Bool, true, false, not, _||_, true≢false}
 use mathlib.Core.List.{List}
-use Prim.Native.Nat.{ℕ, suc, _<_, _≤_}
+use mathlib.Core.Logic.{inl, inr}
+use Prim.Native.Nat.{ℕ, _<_, _≤_}
+use native.Mathlib.Decide.{ℕ-discrete}
 use native.Mathlib.Omega.{arith}
 use lib.ListN.{length}
-use borrow.Author.Tests.{lt-ltb, le-ltb, ltb-true, ltb-false, not-false}
+use borrow.Author.Tests.{lt-ltb, le-ltb, ltb-true, ltb-false, eq-eqb, ne-eqb, not-false}
 use Rattle.grid.specs.Grid.{gridSize}
-use Rattle.ranges.proofs.Search.{every-at, every-of}
-use Rattle.sizes.specs.Sizes.{badOutput, badInputs, badWidths, refusedBy, accepted}
-use Rattle.sizes.specs.declared.Refusal.{Refusal}
+use Rattle.ranges.proofs.Search.{true-or-false, every-at, every-of}
+use Rattle.sizes.specs.Sizes.{Ruled, refusedBy, accepted, sizesRefusal}
 use Rattle.sizes.specs.declared.Sizes.{Sizes}
-use Rattle.cells.specs.Taken.{Fitting}
+use Rattle.sizes.proofs.Judged.{number-of, sizes-accepted, sizes-ruled}
+use Rattle.cells.specs.Taken.{Fitting, CellsTaken}
 use Rattle.cells.specs.Cells.{smallCell, largeCell, badCells, cellsRefusal}
-
--- an answer of number 0 was not given by a test
-passed-test : (b : Bool) (k : ℕ) (r : Refusal) → cond b (refusedBy (suc k)) r .number ≡ 0 → (b ≡ false) × (r .number ≡ 0)
-passed-test true k r e = absurd (omega arith)
-passed-test false k r e = (refl, e)
 
 neither : (a b : Bool) → (a || b) ≡ false → (a ≡ false) × (b ≡ false)
 neither true b e = absurd (true≢false e)
 neither false b e = (refl, e)
 
-module _ (z : Sizes) (cells : List ℕ) (len : ℕ) where
-  pub cells-short : length cells < gridSize z → badCells z cells len ≡ true
+module _ (m g : ℕ) (cells : List ℕ) (len : ℕ) where
+  pub cells-short : length cells < g → badCells m g cells len ≡ true
   unfolding badCells
-  cells-short l = rw (lt-ltb (length cells) (gridSize z) l)
+  cells-short l = rw (lt-ltb (length cells) g l)
 
-  module _ (h : gridSize z ≤ length cells) where
-    pub written-short : len < gridSize z → badCells z cells len ≡ true
+  module _ (h : g ≤ length cells) where
+    pub written-short : len < g → badCells m g cells len ≡ true
     unfolding badCells
-    written-short l = rw (le-ltb (length cells) (gridSize z) h, lt-ltb len (gridSize z) l)
+    written-short l = rw (le-ltb (length cells) g h, lt-ltb len g l)
 
-    pub cells-judged : gridSize z ≤ len → badCells z cells len ≡ largeCell (z .m) (gridSize z) cells
+    pub cells-judged : g ≤ len → badCells m g cells len ≡ largeCell m g cells
     unfolding badCells
-    cells-judged l = rw (le-ltb (length cells) (gridSize z) h, le-ltb len (gridSize z) l)
+    cells-judged l = rw (le-ltb (length cells) g h, le-ltb len g l)
 
-  pub fitting : badCells z cells len ≡ false → Fitting z cells len
+module _ (z : Sizes) (cells : List ℕ) (len : ℕ) where
+  pub fitting : badCells (z .m) (gridSize z) cells len ≡ false → Fitting z cells len
   unfolding badCells largeCell smallCell
   fitting e =
       let q = neither _ _ e in
@@ -49,47 +47,32 @@ module _ (z : Sizes) (cells : List ℕ) (len : ℕ) where
         small = λ i l. ltb-true _ _ (every-at (smallCell (z .m) cells) 0 (gridSize z) i (not-false _ (q .1)) (omega arith) (omega arith));
       }
 
-  pub fits : Fitting z cells len → badCells z cells len ≡ false
+  fits : Fitting z cells len → badCells (z .m) (gridSize z) cells len ≡ false
   unfolding largeCell smallCell
   fits f =
-      cells-judged (f .read) (f .written)
+      cells-judged (z .m) (gridSize z) cells len (f .read) (f .written)
       ∙ ap not (every-of (smallCell (z .m) cells) 0 (gridSize z) (λ i l h. lt-ltb _ _ (f .small i (omega arith))))
 
-  pub at-2 : badOutput z ≡ true → cellsRefusal z cells len ≡ refusedBy 2
+  pub cells-unruled : ¬ (sizesRefusal z .number ≡ 0) → cellsRefusal z cells len ≡ sizesRefusal z
   unfolding cellsRefusal
-  at-2 e = rw e
+  cells-unruled n = rw (ne-eqb _ 0 n)
 
-  module _ (o : badOutput z ≡ false) where
-    pub at-3 : badInputs z ≡ true → cellsRefusal z cells len ≡ refusedBy 3
-    unfolding cellsRefusal
-    at-3 e = rw (o, e)
-
-    module _ (i : badInputs z ≡ false) where
-      pub at-5 : badWidths z ≡ true → cellsRefusal z cells len ≡ refusedBy 5
-      unfolding cellsRefusal
-      at-5 e = rw (o, i, e)
-
-      module _ (w : badWidths z ≡ false) where
-        pub at-13 : badCells z cells len ≡ true → cellsRefusal z cells len ≡ refusedBy 13
-        unfolding cellsRefusal
-        at-13 e = rw (o, i, w, e)
-
-        pub at-0 : badCells z cells len ≡ false → cellsRefusal z cells len ≡ accepted
-        unfolding cellsRefusal
-        at-0 e = rw (o, i, w, e)
-
-  -- what holds of an accepted call
-  pub record Passed : Type 0 where
-    pub output : badOutput z ≡ false
-    pub inputs : badInputs z ≡ false
-    pub widths : badWidths z ≡ false
-    pub fits : Fitting z cells len
-
-  pub passed : cellsRefusal z cells len .number ≡ 0 → Passed
+  pub cells-13 : Ruled z → badCells (z .m) (gridSize z) cells len ≡ true → cellsRefusal z cells len ≡ refusedBy 13
   unfolding cellsRefusal
-  passed e =
-      let p2 = passed-test (badOutput z) 1 _ e in
-      let p3 = passed-test (badInputs z) 2 _ (p2 .1) in
-      let p5 = passed-test (badWidths z) 4 _ (p3 .1) in
-      let p13 = passed-test (badCells z cells len) 12 _ (p5 .1) in
-      record { output = p2 .0; inputs = p3 .0; widths = p5 .0; fits = fitting (p13 .0) }
+  cells-13 r e = rw (eq-eqb _ 0 (number-of (sizes-accepted z r)), e)
+
+  pub cells-accepted : CellsTaken z cells len → cellsRefusal z cells len ≡ accepted
+  unfolding cellsRefusal
+  cells-accepted t = rw (eq-eqb _ 0 (number-of (sizes-accepted z (t .sizes))), fits (t .fits))
+
+  pub cells-taken : cellsRefusal z cells len .number ≡ 0 → CellsTaken z cells len
+  cells-taken e =
+      elim (ℕ-discrete (sizesRefusal z .number) 0) [
+        | no n ↦ absurd (n (sym (number-of (cells-unruled n)) ∙ e))
+        | yes p ↦
+            let r = sizes-ruled z p in
+            elim (true-or-false (badCells (z .m) (gridSize z) cells len)) [
+              | inl b ↦ absurd (omega (arith, number-of (cells-13 r b), e))
+              | inr b ↦ record { sizes = r; fits = fitting b }
+            ]
+      ]

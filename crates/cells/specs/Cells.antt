@@ -2,8 +2,9 @@
 --   shortSlice g len           13, first part: a slice of len entries has fewer than g, the size of the grid
 --   smallCell m cells p        cell p is below 2^m
 --   largeCell m g cells        13, second part: one of the first g cells given is 2^m or more
---   badCells z cells len       13 of a call that reads the cells and writes len entries
---   cellsRefusal z cells len   what differencing or summing answers, with the cells to read and len entries to write: 2, 3, 5, 13
+--   badCells m g cells len     13 of a call that reads the cells and writes len entries
+--   cellsRefusal z cells len   what differencing or summing answers, with the cells to read and len entries to write: the sizes'
+--                              refusal, 13
 use mathlib.Core.Bool.{Bool, not, cond, _||_}
 use mathlib.Core.List.{List}
 use Prim.Native.Nat.{ℕ, _^_}
@@ -11,7 +12,7 @@ use lib.Dec.{ltb}
 use lib.ListN.{length, getD}
 use Rattle.grid.specs.Grid.{gridSize}
 use Rattle.ranges.specs.Search.{every}
-use Rattle.sizes.specs.Sizes.{badOutput, badInputs, badWidths, refusedBy, accepted}
+use Rattle.sizes.specs.Sizes.{refusedBy, accepted, accepts, sizesRefusal}
 use Rattle.sizes.specs.declared.Refusal.{Refusal}
 use Rattle.sizes.specs.declared.Sizes.{Sizes}
 
@@ -24,12 +25,11 @@ smallCell m cells p = ltb (getD cells p 0) (2 ^ m)
 unfoldable pub largeCell : ℕ → ℕ → List ℕ → Bool
 largeCell m g cells = not (every (smallCell m cells) 0 g)
 
-unfoldable pub badCells : Sizes → List ℕ → ℕ → Bool
-badCells z cells len = shortSlice (gridSize z) (length cells) || shortSlice (gridSize z) len || largeCell (z .m) (gridSize z) cells
+unfoldable pub badCells : ℕ → ℕ → List ℕ → ℕ → Bool
+badCells m g cells len = shortSlice g (length cells) || shortSlice g len || largeCell m g cells
 
 unfoldable pub cellsRefusal : Sizes → List ℕ → ℕ → Refusal
 cellsRefusal z cells len =
-    cond (badOutput z) (refusedBy 2)
-    (cond (badInputs z) (refusedBy 3)
-    (cond (badWidths z) (refusedBy 5)
-    (cond (badCells z cells len) (refusedBy 13) accepted)))
+    cond (accepts (sizesRefusal z))
+    (cond (badCells (z .m) (gridSize z) cells len) (refusedBy 13) accepted)
+    (sizesRefusal z)

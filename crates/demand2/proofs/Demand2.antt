@@ -1,7 +1,6 @@
 -- Demand 2, as specs/Demand2.antt states it. What a call writes are numbers below 2^m, one for each vector of the grid: so the next call takes
 -- them, and gives back what was read, since differencing and summing undo one another.
 use mathlib.Core.Path.{_≡_, _∙_, ap}
-use mathlib.Core.Bool.{false}
 use mathlib.Core.List.{List, _++_}
 use Prim.Native.Nat.{ℕ, _+_, _^_, _≤_, _<_}
 use native.Mathlib.Nat.{mod-lt}
@@ -11,14 +10,15 @@ use lib.Pow.{pow-pos}
 use lib.Seq.{take-at, length-take-le, getD-take}
 use Rattle.cells.specs.Cells.{cellsRefusal}
 use Rattle.cells.specs.Taken.{Fitting}
-use Rattle.cells.proofs.Answers.{passed, fits, at-0}
+use Rattle.cells.proofs.Answers.{cells-accepted, cells-taken}
 use Rattle.differences.specs.Statement.{Cells}
 use Rattle.differences.specs.Table.{mixedDifference, listed, tableOf, given, sumBelow, summed}
 use Rattle.lists.proofs.Tabulate.{length-tabulate, getD-tabulate}
 use Rattle.differences.proofs.Tables.{sumOfDifferences, differencesOfSum}
 use Rattle.fields.specs.File.{sizesOf}
 use Rattle.fields.specs.Steps.{stepsOf}
-use Rattle.file.proofs.Number.{head-passed, number-zero}
+use Rattle.file.proofs.Accepted.{accepted as file-accepted}
+use Rattle.file.proofs.Sound.{file-ruled}
 use Rattle.file_tables.specs.FileTables.{tableOfFile}
 use Rattle.file_tables.proofs.Answers.{made, table-accepted}
 use Rattle.file_tables.proofs.Files.{table-sums}
@@ -26,16 +26,13 @@ use Rattle.grid.specs.Grid.{axesOf, gridSize}
 use Rattle.integers.specs.Modulo.{remainder}
 use Rattle.integers.proofs.Remainder.{remainder-most}
 use Rattle.places.specs.Places.{size, vectorAt}
-use Rattle.sizes.specs.Sizes.{badOutput, badInputs, badWidths, accepted}
-use Rattle.sizes.specs.declared.Refusal.{Refusal}
+use Rattle.sizes.specs.Sizes.{Ruled, accepted}
 use Rattle.sizes.specs.declared.Sizes.{Sizes}
+use Rattle.sizes.proofs.Judged.{number-of}
 use Rattle.datapath.specs.Steps.{exact}
 use Rattle.tables.specs.Tables.{differencesOf, sumsOf, differenced, summedUp}
 use Rattle.tables.proofs.Answers.{differenced-accepted, summed-accepted}
 use Rattle.demand2.specs.Demand2.{SumOfMade, DifferenceOfSum, SumOfDifference}
-
-number : {r : Refusal} → r ≡ accepted → r .number ≡ 0
-number e = ap (λ (r : Refusal). r .number) e
 
 -- what is listed over the grid are cells, where it is below M
 cells-listed : (M : ℕ) (us : List ℕ) (f : List ℕ → ℕ) → ((x : List ℕ) → f x < M) → Cells M us (listed us f)
@@ -68,8 +65,7 @@ module _ (z : Sizes) where
 
   -- the sizes are in order, and a slice has the cells w in front, and another has room
   module _
-      (o : badOutput z ≡ false) (i : badInputs z ≡ false) (b : badWidths z ≡ false)
-      (w rest again : List ℕ) (g : Given w) (h : gridSize z ≤ length again)
+      (r : Ruled z) (w rest again : List ℕ) (g : Given w) (h : gridSize z ≤ length again)
     where
       front : Fitting z (w ++ rest) (length again)
       unfolding gridSize
@@ -85,26 +81,26 @@ module _ (z : Sizes) where
       taken = take-at w rest (gridSize z) (g .full)
 
       next : cellsRefusal z (w ++ rest) (length again) ≡ accepted
-      next = at-0 z (w ++ rest) (length again) o i b (fits z (w ++ rest) (length again) front)
+      next = cells-accepted z (w ++ rest) (length again) (record { sizes = r; fits = front })
 
       next-sum : summedUp z (w ++ rest) again ≡ sumsOf z w ++ drop (gridSize z) again
-      next-sum = summed-accepted z (w ++ rest) again (number next) ∙ ap (λ l. sumsOf z l ++ drop (gridSize z) again) taken
+      next-sum = summed-accepted z (w ++ rest) again (number-of next) ∙ ap (λ l. sumsOf z l ++ drop (gridSize z) again) taken
 
       next-difference : differenced z (w ++ rest) again ≡ differencesOf z w ++ drop (gridSize z) again
-      next-difference = differenced-accepted z (w ++ rest) again (number next) ∙ ap (λ l. differencesOf z l ++ drop (gridSize z) again) taken
+      next-difference = differenced-accepted z (w ++ rest) again (number-of next) ∙ ap (λ l. differencesOf z l ++ drop (gridSize z) again) taken
 
 pub sumOfMade : SumOfMade
 unfolding tableOfFile
 sumOfMade s room table outputs e h =
     let z = sizesOf s in
     let M = 2 ^ z .m in
-    let m = made s room (length table) (number e) in
-    let head = head-passed s (number-zero s (m .sound) .0) in
+    let m = made s room (length table) (number-of e) in
+    let ruled = file-ruled s (file-accepted s (m .sound)) in
     let rest = drop (gridSize z) table in
     let g = cells-table M (pow-pos (z .m)) (axesOf z) (exact (stepsOf s)) in
-    rw (table-accepted s room table (number e)) (
-      next z (head .output) (head .inputs) (head .widths) (tableOfFile s) rest outputs g h,
-      next-sum z (head .output) (head .inputs) (head .widths) (tableOfFile s) rest outputs g h
+    rw (table-accepted s room table (number-of e)) (
+      next z ruled (tableOfFile s) rest outputs g h,
+      next-sum z ruled (tableOfFile s) rest outputs g h
           ∙ ap (λ l. l ++ drop (gridSize z) outputs) (table-sums s),
     )
 
@@ -112,13 +108,13 @@ pub differenceOfSum : DifferenceOfSum
 unfolding sumsOf differencesOf
 differenceOfSum z table outputs again e h =
     let M = 2 ^ z .m in
-    let p = passed z table (length outputs) (number e) in
+    let p = cells-taken z table (length outputs) (number-of e) in
     let c = take (gridSize z) table in
     let rest = drop (gridSize z) outputs in
     let g = cells-summed M (pow-pos (z .m)) (axesOf z) c in
-    rw (summed-accepted z table outputs (number e)) (
-      next z (p .output) (p .inputs) (p .widths) (sumsOf z c) rest again g h,
-      next-difference z (p .output) (p .inputs) (p .widths) (sumsOf z c) rest again g h
+    rw (summed-accepted z table outputs (number-of e)) (
+      next z (p .sizes) (sumsOf z c) rest again g h,
+      next-difference z (p .sizes) (sumsOf z c) rest again g h
           ∙ ap (λ l. l ++ drop (gridSize z) again) (differencesOfSum M (axesOf z) c (given-taken z table (length outputs) (p .fits))),
     )
 
@@ -126,12 +122,12 @@ pub sumOfDifference : SumOfDifference
 unfolding sumsOf differencesOf
 sumOfDifference z outputs table again e h =
     let M = 2 ^ z .m in
-    let p = passed z outputs (length table) (number e) in
+    let p = cells-taken z outputs (length table) (number-of e) in
     let ys = take (gridSize z) outputs in
     let rest = drop (gridSize z) table in
     let g = cells-table M (pow-pos (z .m)) (axesOf z) (given (axesOf z) ys) in
-    rw (differenced-accepted z outputs table (number e)) (
-      next z (p .output) (p .inputs) (p .widths) (differencesOf z ys) rest again g h,
-      next-sum z (p .output) (p .inputs) (p .widths) (differencesOf z ys) rest again g h
+    rw (differenced-accepted z outputs table (number-of e)) (
+      next z (p .sizes) (differencesOf z ys) rest again g h,
+      next-sum z (p .sizes) (differencesOf z ys) rest again g h
           ∙ ap (λ l. l ++ drop (gridSize z) again) (sumOfDifferences M (axesOf z) ys (given-taken z outputs (length table) (p .fits))),
     )

@@ -7,6 +7,7 @@
 --   accepted     acceptance: number 0
 --   accepts r    the call that answers r is accepted
 --   isRefusal r  and that it is refused
+--   sizesRefusal z  what sizes given as numbers are refused by, or acceptance: 2, 3, 5
 --   maxInputs    the largest count of inputs, which is also the count of word-length bytes
 --   OutputLength m  what 2 asks, with no test in it
 --   OutputRuled z   2 with no test in it: m is 1 to 64
@@ -83,3 +84,9 @@ accepts r = eqb (r .number) 0
 
 abbrev pub isRefusal : Refusal → Bool
 isRefusal r = not (accepts r)
+
+unfoldable pub sizesRefusal : Sizes → Refusal
+sizesRefusal z =
+    cond (badOutput z) (refusedBy 2)
+    (cond (badInputs z) (refusedBy 3)
+    (cond (badWidths z) (refusedBy 5) accepted))

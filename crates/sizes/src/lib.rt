@@ -10,6 +10,7 @@ ghost use Rattle.sizes.specs.Sizes.{
   badWidths,
   widthRule,
   refusedBy,
+  sizesRefusal,
 };
 
 // The largest count of inputs, which is also the count of word-length bytes.
@@ -99,4 +100,20 @@ pub fn bad_widths(z: Sizes) -> bool
         i += 1;
     }
     false
+}
+
+// What sizes given as numbers are refused by: 2, 3 or 5, in this order; or acceptance.
+pub fn sizes_refusal(z: Sizes) -> Refusal
+    ensures { λ r. ⌜ r ≡ sizesRefusal z ⌝ }
+{
+    if bad_output(z) {
+        return refused_by(2);
+    }
+    if bad_inputs(z) {
+        return refused_by(3);
+    }
+    if bad_widths(z) {
+        return refused_by(5);
+    }
+    refused_by(0)
 }

@@ -1,9 +1,11 @@
 // The difference table of given outputs, and the outputs that a table sums to. Document 01's number G is the size of
 // the grid.
-use cells::cells_refusal;
+use cells::bad_cells;
 use grid::grid_of;
 use sizes::Refusal;
 use sizes::Sizes;
+use sizes::refused_by;
+use sizes::sizes_refusal;
 use slices::copy_front;
 use transform::transform_front;
 ghost use Rattle.tables.specs.Tables.{CellsCall};
@@ -16,7 +18,7 @@ ghost use Rattle.tables.specs.Tables.{CellsCall};
 pub fn transform_cells(z: Sizes, cells: &[u64], result: &mut [u64], sum: bool) -> Refusal
     ensures { λ r. ⌜ CellsCall z (now (cells .entry)) sum (now (result .entry)) r (now (result .exit)) ⌝ }
 {
-    let refusal = cells_refusal(z, cells, result.len());
+    let refusal = sizes_refusal(z);
     let number = refusal.number;
     if number != 0 {
         return refusal;
@@ -26,6 +28,9 @@ pub fn transform_cells(z: Sizes, cells: &[u64], result: &mut [u64], sum: bool) -
     let count = g.size as usize;
     let d = z.d as usize;
     let m = z.m as u64;
+    if bad_cells(cells, result.len(), count, m) {
+        return refused_by(13);
+    }
     copy_front(cells, result, count);
     transform_front(result, axes, d, count, m, sum);
     refusal

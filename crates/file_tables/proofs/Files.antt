@@ -3,7 +3,7 @@
 use mathlib.Core.Bool.{false}
 use mathlib.Core.Path.{_≡_, sym, _∙_, ap}
 use mathlib.Core.List.{List, _++_}
-use Prim.Native.Nat.{ℕ, _^_, _≤_, _<_}
+use Prim.Native.Nat.{ℕ, _^_, _<_}
 use native.Mathlib.Nat.{mod-eq-of-lt}
 use native.Mathlib.Omega.{arith}
 use lib.IntN.{ℤ, negsuc}
@@ -17,10 +17,9 @@ use Rattle.lists.proofs.Tabulate.{length-tabulate}
 use Rattle.differences.proofs.Neighbours.{mixed-remainder}
 use Rattle.differences.proofs.Tables.{difference-mixed, sumOfTable}
 use Rattle.evaluate.specs.Evaluate.{outputOf}
-use Rattle.file.specs.Accepted.{Accepted}
-use Rattle.fields.specs.File.{sizesOf, stepCount}
+use Rattle.fields.specs.File.{sizesOf}
 use Rattle.fields.specs.Steps.{stepsOf}
-use Rattle.grid.specs.Grid.{axesOf, gridSize, gridOf}
+use Rattle.grid.specs.Grid.{axesOf, gridSize}
 use Rattle.grid.specs.declared.Grid.{Grid}
 use Rattle.grid.proofs.Grids.{grid-size, grid-axes, grid-least}
 use Rattle.integers.specs.Modulo.{remainder}
@@ -30,10 +29,11 @@ use Rattle.sizes.specs.Sizes.{maxInputs, Sound}
 use Rattle.sizes.specs.declared.Sizes.{Sizes}
 use Rattle.datapath.specs.Steps.{exact, output}
 use Rattle.tables.specs.Tables.{differencesOf, sumsOf}
-use Rattle.tables.proofs.Fronts.{in-place}
+use Rattle.tables.proofs.Fronts.{lent, in-place}
+use Rattle.transform.specs.Grid.{Lent}
 use Rattle.transform.specs.Transform.{transformOf}
 use Rattle.file_tables.specs.FileTables.{tableOfFile}
-use Rattle.file_tables.specs.Filling.{Filling}
+use Rattle.file_tables.specs.Filling.{Filling, TableFilling}
 
 -- functions that are congruent over the grid have equal tables
 table-congruent :
@@ -65,49 +65,50 @@ module _ (s : List ℕ) where
   unfolding sumsOf tableOfFile outputOf output
   table-sums = sumOfTable (2 ^ sizesOf s .m) (pow-pos (sizesOf s .m)) (axesOf (sizesOf s)) (exact (stepsOf s))
 
--- the sizes and the grid of an accepted file, as the code has them
-module _ (s : List ℕ) (a : Accepted s) (z : Sizes) (ez : z ≡ sizesOf s) (g : Grid) (eg : g ≡ gridOf z) where
-  pub sizes-full : length (z .widths) ≡ maxInputs
+-- the sizes and the grid of an accepted file, as the code has them, where both slices have room
+module _ {s : List ℕ} {n : ℕ} {z : Sizes} {g : Grid} {scratch table : List ℕ} (k : TableFilling s n z g scratch table) where
+  sizes-full : length (z .widths) ≡ maxInputs
   unfolding sizesOf
-  sizes-full = rw (ez, length-take, length-drop) (omega (arith, a .long))
+  sizes-full = rw (k .sizes, length-take, length-drop) (omega (arith, k .sound .long))
 
-  pub sizes-sound : Sound z
+  sizes-sound : Sound z
   unfolding sizesOf
-  sizes-sound = rw ez (file-sound _ a)
-
-  same-size : g .size ≡ gridSize (sizesOf s)
-  same-size = grid-size z g eg ∙ ap gridSize ez
+  sizes-sound = rw (k .sizes) (file-sound _ (k .sound))
 
   same-axes : take (z .d) (g .axes) ≡ axesOf z
-  same-axes = grid-axes z g eg sizes-full (sizes-sound .1)
+  same-axes = grid-axes z g (k .grid) sizes-full (sizes-sound .1)
 
-  pub filling :
-      (n : ℕ) (scratch table : List ℕ) → n ≡ stepCount s → stepCount s ≤ length scratch → gridSize (sizesOf s) ≤ length table →
-      Filling s n (g .axes) (z .d) (g .size) scratch table
+  -- what filling with the outputs asks
+  pub filling : Filling s n (g .axes) (z .d) (g .size) scratch table
   unfolding gridSize
-  filling n scratch table e r h =
+  filling =
+      let G = grid-size z g (k .grid) in
       record {
-        sound = a;
-        steps = e;
-        inputs = ap (λ (z : Sizes). z .d) ez;
-        some = omega (arith, grid-least z sizes-sound, ap gridSize ez, same-size);
-        counted = same-size ∙ ap gridSize (sym ez) ∙ ap size (sym same-axes);
-        room = omega arith;
-        tableRoom = omega (arith, same-size);
+        sound = k .sound;
+        steps = k .steps;
+        inputs = ap (λ (z : Sizes). z .d) (k .sizes);
+        some = omega (arith, grid-least z sizes-sound);
+        counted = G ∙ ap size (sym same-axes);
+        room = k .room;
+        tableRoom = k .tableRoom;
       }
+
+  -- what differencing in place asks of a slice as long as the table slice
+  pub differencing : (len : ℕ) → len ≡ length table → Lent (g .axes) (z .d) (g .size) (z .m) len
+  differencing len e = lent z sizes-full sizes-sound g (k .grid) len (omega (arith, grid-size z g (k .grid), k .tableRoom))
 
   -- the outputs over the grid, differenced in place
   pub filled :
-      (table outputs out : List ℕ) → outputs ≡ listed (take (z .d) (g .axes)) (outputOf s) ++ drop (g .size) table →
+      (outputs out : List ℕ) → outputs ≡ listed (take (z .d) (g .axes)) (outputOf s) ++ drop (g .size) table →
       out ≡ transformOf false (2 ^ z .m) (take (z .d) (g .axes)) (take (g .size) outputs) ++ drop (g .size) outputs →
       out ≡ tableOfFile s ++ drop (gridSize (sizesOf s)) table
   unfolding gridSize differencesOf transformOf
-  filled table outputs out e o =
+  filled outputs out e o =
       let ys = listed (axesOf z) (outputOf s) in
-      let n : length ys ≡ gridSize z = length-tabulate (λ p. outputOf s (vectorAt (axesOf z) p)) 0 (size (axesOf z)) in
-      in-place z sizes-full sizes-sound g eg false ys table outputs out (omega (arith, n))
-      (e ∙ ap (λ l. l ++ drop (g .size) table) (ap (λ us. listed us (outputOf s)) same-axes ∙ sym (take-all (g .size) ys (omega (arith, n, grid-size z g eg)))))
+      let full : length ys ≡ gridSize z = length-tabulate (λ p. outputOf s (vectorAt (axesOf z) p)) 0 (size (axesOf z)) in
+      in-place z sizes-full sizes-sound g (k .grid) false ys table outputs out (omega (arith, full))
+      (e ∙ ap (λ l. l ++ drop (g .size) table) (ap (λ us. listed us (outputOf s)) same-axes ∙ sym (take-all (g .size) ys (omega (arith, full, grid-size z g (k .grid))))))
       o
-      ∙ ap (λ l. differencesOf z l ++ drop (gridSize z) table) (take-all (gridSize z) ys (omega (arith, n)))
-      ∙ ap (λ (z : Sizes). differencesOf z (listed (axesOf z) (outputOf s)) ++ drop (gridSize z) table) ez
+      ∙ ap (λ l. differencesOf z l ++ drop (gridSize z) table) (take-all (gridSize z) ys (omega (arith, full)))
+      ∙ ap (λ (z : Sizes). differencesOf z (listed (axesOf z) (outputOf s)) ++ drop (gridSize z) table) (k .sizes)
       ∙ ap (λ l. l ++ drop (gridSize (sizesOf s)) table) (outputs-table s)

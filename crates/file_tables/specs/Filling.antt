@@ -5,7 +5,9 @@
 --   OutputsFilled s n axes d count w t w′ t′   what it promises:
 --     table     the outputs at the vectors of the grid, in dictionary order, stand in the first entries; the others are untouched
 --     scratch   past the first n entries nothing has changed
---   TableFilled s w t w′ t′   what filling with the table promises:
+--   TableFilling s n z g w t   what filling with the table asks: the file is accepted; n, z and g are its count of steps, its sizes and its grid;
+--                              the scratch slice has room for the steps, and the table slice for the cells
+--   TableFilled s w t w′ t′   what it promises:
 --     table     the table stands in the first G entries; the others are untouched
 --     scratch   the first N entries are zero; the others are untouched
 use mathlib.Core.Path.{_≡_}
@@ -16,8 +18,10 @@ use Rattle.differences.specs.Table.{listed}
 use Rattle.evaluate.specs.Evaluate.{outputOf}
 use Rattle.file.specs.Accepted.{Accepted}
 use Rattle.fields.specs.File.{sizesOf, stepCount}
-use Rattle.grid.specs.Grid.{gridSize}
+use Rattle.grid.specs.Grid.{gridOf, gridSize}
+use Rattle.grid.specs.declared.Grid.{Grid}
 use Rattle.places.specs.Places.{size}
+use Rattle.sizes.specs.declared.Sizes.{Sizes}
 use Rattle.slices.specs.Slices.{cleared, KeptPast}
 use Rattle.file_tables.specs.FileTables.{tableOfFile}
 
@@ -33,6 +37,14 @@ pub record Filling (s : List ℕ) (n : ℕ) (axes : List ℕ) (d count : ℕ) (w
 pub record OutputsFilled (s : List ℕ) (n : ℕ) (axes : List ℕ) (d count : ℕ) (w t w′ t′ : List ℕ) : Type 0 where
   pub table : t′ ≡ listed (take d axes) (outputOf s) ++ drop count t
   pub scratch : KeptPast n w w′
+
+pub record TableFilling (s : List ℕ) (n : ℕ) (z : Sizes) (g : Grid) (w t : List ℕ) : Type 0 where
+  pub sound : Accepted s
+  pub steps : n ≡ stepCount s
+  pub sizes : z ≡ sizesOf s
+  pub grid : g ≡ gridOf z
+  pub room : n ≤ length w
+  pub tableRoom : g .size ≤ length t
 
 pub record TableFilled (s w t w′ t′ : List ℕ) : Type 0 where
   pub table : t′ ≡ tableOfFile s ++ drop (gridSize (sizesOf s)) t

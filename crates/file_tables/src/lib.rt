@@ -3,42 +3,18 @@ use evaluate::output_at;
 use fields::read_sizes;
 use fields::step_count;
 use file::check;
+use grid::Grid;
 use grid::grid_of;
 use sizes::INPUTS;
 use sizes::Refusal;
+use sizes::Sizes;
 use sizes::refused_by;
 use slices::clear;
 use transform::transform_front;
 use vectors::next_vector;
 use vectors::vector_at;
-ghost use mathlib.Core.Path.{_≡_};
-ghost use Prim.Native.Nat.{_≤_};
-ghost use lib.ListN.{length};
-ghost use Rattle.file.specs.Accepted.{Accepted};
-ghost use Rattle.fields.specs.File.{sizesOf, stepCount};
-ghost use Rattle.grid.specs.Grid.{gridSize};
-ghost use Rattle.file_tables.specs.FileTables.{tableRefusal, TableMade};
-ghost use Rattle.file_tables.specs.Filling.{Filling, OutputsFilled, TableFilled};
-
-// What making a table answers, with a scratch slice of `room` entries and a table slice of `len`: the file's refusal,
-// 12 or 13, or acceptance.
-fn table_refusal(file: &[u8], room: usize, len: usize) -> Refusal
-    ensures { λ r. ⌜ r ≡ tableRefusal (now (file .entry)) room len ⌝ }
-{
-    let refusal = check(file);
-    let number = refusal.number;
-    if number != 0 {
-        return refusal;
-    }
-    if room < step_count(file) {
-        return refused_by(12);
-    }
-    let g = grid_of(read_sizes(file));
-    if len < g.size as usize {
-        return refused_by(13);
-    }
-    refused_by(0)
-}
+ghost use Rattle.file_tables.specs.FileTables.{TableMade};
+ghost use Rattle.file_tables.specs.Filling.{Filling, OutputsFilled, TableFilling, TableFilled};
 
 // The outputs of an accepted file at the `count` vectors of the grid, in dictionary order, go into the first entries
 // of the table slice. The vector of place 0 is decoded, and each later one is stepped to. Of the scratch slice the
@@ -68,23 +44,19 @@ fn fill_outputs(
     }
 }
 
-// The table of an accepted file, where both slices have room: the outputs over the grid, differenced in place.
-fn fill_table(file: &[u8], scratch: &mut [u64], table: &mut [u64])
-    requires { ⌜ Accepted (now file) ⌝ }
-    requires { ⌜ stepCount (now file) ≤ length (now scratch) ⌝ }
-    requires { ⌜ gridSize (sizesOf (now file)) ≤ length (now table) ⌝ }
+// The table of an accepted file with `n` steps, the sizes `z` and the grid `g`, where both slices have room: the
+// outputs over the grid, differenced in place. The scratch entries that the steps took are cleared.
+fn fill_table(file: &[u8], n: usize, z: Sizes, g: Grid, scratch: &mut [u64], table: &mut [u64])
+    requires { ⌜ TableFilling (now file) n z g (now scratch) (now table) ⌝ }
     ensures { λ _. ⌜
         TableFilled (now (file .entry)) (now (scratch .entry)) (now (table .entry))
         (now (scratch .exit)) (now (table .exit))
         ⌝ }
 {
-    let z = read_sizes(file);
     let d = z.d as usize;
     let m = z.m as u64;
-    let g = grid_of(z);
     let axes = g.axes;
     let cells = g.size as usize;
-    let n = step_count(file);
     fill_outputs(file, n, axes, d, cells, scratch, table);
     transform_front(table, axes, d, cells, m, false);
     clear(scratch, n);
@@ -100,11 +72,20 @@ pub fn make_table(file: &[u8], scratch: &mut [u64], table: &mut [u64]) -> Refusa
         (now (scratch .exit)) (now (table .exit))
         ⌝ }
 {
-    let refusal = table_refusal(file, scratch.len(), table.len());
+    let refusal = check(file);
     let number = refusal.number;
     if number != 0 {
         return refusal;
     }
-    fill_table(file, scratch, table);
-    refusal
+    let n = step_count(file);
+    if scratch.len() < n {
+        return refused_by(12);
+    }
+    let z = read_sizes(file);
+    let g = grid_of(z);
+    if table.len() < g.size as usize {
+        return refused_by(13);
+    }
+    fill_table(file, n, z, g, scratch, table);
+    refused_by(0)
 }

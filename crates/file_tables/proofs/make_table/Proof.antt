@@ -16,19 +16,17 @@ use Rattle.grid.specs.Grid.{gridSize}
 use Rattle.grid.proofs.Grids.{grid-size}
 use Rattle.sizes.specs.Sizes.{accepted}
 use Rattle.sizes.specs.declared.Refusal.{Refusal}
+use Rattle.sizes.proofs.Judged.{number-of}
 use Rattle.file_tables.specs.FileTables.{tableRefusal, TableMade}
 use Rattle.file_tables.proofs.Answers.{table-file, table-12, table-13, table-0, made-refused, table-accepted, scratch-accepted}
 use borrow.Author.Needs.{needs}
 use Rattle.file_tables.proofs.make_table.Statement.{statement}
 use Rattle.file_tables.proofs.make_table.Tie as tie
 
-abbrev number : Refusal → ℕ
-number r = r .number
-
 -- a refused call leaves both slices
 refused : (s w t : List ℕ) (r : Refusal) → r ≡ tableRefusal s (length w) (length t) → ¬ (r .number ≡ 0) → TableMade s w t r w t
 refused s w t r e n =
-    let left = made-refused s w t (λ z. n (ap number e ∙ z)) in
+    let left = made-refused s w t (λ z. n (number-of e ∙ z)) in
     record { refusal = e; table = left .0; scratch = left .1 }
 
 -- the places: the entry, from the check of the file and from where the grid is found
@@ -39,7 +37,7 @@ abbrev start : tie.After-grid-of → tie.Start
 start c = entry (c .before .before .before .before .before)
 
 file-number : (c : tie.After-check) → c .check .result .number ≡ fileNumber (now (entry c .args .file))
-file-number c = ap number (c .check .ensures) ∙ refusal-number _ 1
+file-number c = number-of (c .check .ensures) ∙ refusal-number _ 1
 
 sound : (c : tie.Else1) → fileNumber (now (entry (c .before) .args .file)) ≡ 0
 sound c = sym (file-number (c .before)) ∙ c .if1 .left
@@ -70,7 +68,7 @@ returns-2 c =
     let r = c .refused-by .ensures in
     refused _ _ _ _
     (r ∙ sym (table-12 _ _ _ (sound (c .before .before .before)) (omega (arith, c .before .if2 .taken, c .before .before .step-count .ensures))))
-    (λ e. omega (arith, e, ap number r))
+    (λ e. omega (arith, e, number-of r))
 
 read-sizes-requires : tie.Need-read-sizes-requires
 read-sizes-requires c κs = rules (c .before .before) .long
@@ -84,7 +82,7 @@ returns-3 c =
     let g = c .before .before in
     refused _ _ _ _
     (r ∙ sym (table-13 _ _ _ (sound (g .before .before .before .before)) (room (g .before .before)) (omega (arith, c .before .if3 .taken, cells g))))
-    (λ e. omega (arith, e, ap number r))
+    (λ e. omega (arith, e, number-of r))
 
 fill-table-requires : tie.Need-fill-table-requires
 fill-table-requires c κs =
@@ -104,7 +102,7 @@ returns-4 c =
     let f = c .before .before .before .before .before in
     let e = f .before .before .before in
     let a = start (e .before) .args in
-    let n = ap number (taken e) in
+    let n = number-of (taken e) in
     record {
       refusal = c .refused-by3 .ensures ∙ sym (taken e);
       table = f .fill-table .ensures .table ∙ sym (table-accepted (now (a .file)) (length (now (a .scratch))) (now (a .table)) n);

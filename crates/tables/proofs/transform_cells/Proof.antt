@@ -5,12 +5,12 @@ use native.Mathlib.Omega.{arith}
 use borrow.Author.Needs.{needs}
 use denote.Ref.{now}
 use lib.ListN.{length}
-use Rattle.cells.specs.Cells.{badCells, cellsRefusal}
+use Rattle.cells.specs.Cells.{badCells}
 use Rattle.cells.specs.Taken.{CellsTaken}
 use Rattle.cells.proofs.Answers.{fitting, cells-unruled, cells-13, cells-accepted}
 use Rattle.grid.specs.Grid.{gridSize}
 use Rattle.grid.proofs.Grids.{grid-size}
-use Rattle.sizes.specs.Sizes.{maxInputs, Ruled, Sound, sizesRefusal}
+use Rattle.sizes.specs.Sizes.{maxInputs, Ruled, Sound}
 use Rattle.sizes.proofs.Judged.{number-of, sizes-accepted, sizes-ruled}
 use Rattle.sizes.proofs.Ruled.{ruled-sound}
 use Rattle.transform.specs.Transform.{transformOf}

@@ -3,7 +3,7 @@
 --   axis m n      the smaller of 2^n and L(m): on the grid it takes the values below this
 --   ranges ns     the ranges of inputs with the word lengths ns. Full-width vectors are those below them
 --   axes m ns     their axes. The grid is the vectors below them
---   AxisByLeast     the axis of word length n is the smaller of 2^n and the least number whose factorial is divisible by 2^m, whatever way that
+--   AxisByLeast   the axis of word length n is the smaller of 2^n and the least number whose factorial is divisible by 2^m, whatever way that
 --                 is found. Proved in proofs/Table
 use mathlib.Core.List.{List, map}
 use mathlib.Core.Path.{_≡_}

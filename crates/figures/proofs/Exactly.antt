@@ -27,7 +27,7 @@ module _ (m : ℕ) where
       elim (true-or-false (outputLength m)) [ inl e ↦ absurd (n (within-range 1 64 m e)) | inr e ↦ figures-refused e ]
 
   told : Told m (boundAnswered m)
-  told = record { number = refl; least = leastBound m; quotients = refl }
+  told = record { number = refl; file = refl; step = refl; least = leastBound m; quotients = refl }
 
 withheld : Withheld boundRefused
 withheld = record { number = refl; file = refl; step = refl; none = refl; zeros = refl }

@@ -5,6 +5,7 @@
 --     outside        any other is refused
 --   Told m f         the figures f are told of m:
 --     number         they are no refusal
+--     file, step     and show no file and no step
 --     least          the bound is the least number whose factorial is divisible by 2^m
 --     quotients      the quotients are those of the bound
 --   Withheld f       the figures f are a refusal:
@@ -34,6 +35,8 @@ figuresOf m = cond (outputLength m) (boundAnswered m) boundRefused
 
 pub record Told (m : ℕ) (f : Figures) : Type 0 where
   pub number : f .refusal .number ≡ 0
+  pub file : f .refusal .file ≡ 0
+  pub step : f .refusal .step ≡ 0
   pub least : IsBound m (f .bound)
   pub quotients : f .quotients ≡ halvings (f .bound)
 

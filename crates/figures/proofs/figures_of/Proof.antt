@@ -10,12 +10,6 @@ use borrow.Author.Needs.{needs}
 use Rattle.figures.proofs.figures_of.Statement.{statement}
 use Rattle.figures.proofs.figures_of.Tie as tie
 
-is-output-length-requires : tie.Need-is-output-length-requires
-is-output-length-requires c κs = search needs
-
-refused-by-requires : tie.Need-refused-by-requires
-refused-by-requires c κs = search needs
-
 returns : tie.Need-returns
 returns c =
     let n = sym (c .before .before .is-output-length .ensures) ∙ not-true _ (c .before .if1 .taken) in
@@ -23,12 +17,6 @@ returns c =
 
 bound-requires : tie.Need-bound-requires
 bound-requires c κs = within-range 1 64 _ (sym (c .before .is-output-length .ensures) ∙ not-false _ (c .if1 .left))
-
-refused-by-requires-2 : tie.Need-refused-by-requires-2
-refused-by-requires-2 c κs = search needs
-
-halvings-requires : tie.Need-halvings-requires
-halvings-requires c κs = search needs
 
 returns-2 : tie.Need-returns-2
 returns-2 c =
@@ -42,10 +30,10 @@ pub figures-of-spec : {M : Type 1} → statement M
 figures-of-spec =
     tie.close
     (tie.spec
-    is-output-length-requires
-    refused-by-requires
+    (λ c κs. search needs)
+    (λ c κs. search needs)
     returns
     bound-requires
-    refused-by-requires-2
-    halvings-requires
+    (λ c κs. search needs)
+    (λ c κs. search needs)
     returns-2)

@@ -2,12 +2,12 @@
 -- so the exponents of two factors add up to that of their product, since odd times odd is odd.
 use mathlib.Core.Path.{_≡_, sym, _∙_, ap, ap₂, subst}
 use Prim.Native.Nat.{ℕ, zero, suc, _+_, _*_, _-_, _/_, _%_, _^_, _≤_, _<_}
-use native.Mathlib.Nat.{mod-one, zero-mod, mod-add-div, mod-lt, mul-mod-right, mul-add-mod-self-left, mul-mul-mul-comm, mul-assoc, pow-suc, two-pow-succ, le-antisymm}
+use native.Mathlib.Nat.{mod-one, zero-mod, mod-add-div, mod-lt, mul-mod-right, mul-add-mod-self-left, mul-mul-mul-comm, mul-assoc, pow-suc, two-pow-succ, one-mul, le-antisymm}
 use native.Mathlib.Nat.{le-of-dvd, dvd-of-mod-eq-zero, mod-eq-zero-of-dvd, dvd-of-mul-dvd-mul-left}
 use native.Mathlib.Decide.{ℕ-discrete, decLe}
 use native.Mathlib.Omega.{arith}
 use lib.Dec.{lit<}
-use lib.Pow.{pow-pos, pow-add, pow-mono, mod-mod-pow}
+use lib.Pow.{pow-pos, pow-add, pow-mono, mod-mod-pow, shl-exact}
 use Rattle.integers.specs.Exponent.{IsExponent}
 
 -- the powers of two up to one that divides n divide it
@@ -26,6 +26,10 @@ exponent-most n e k h l d =
 
 pub exponent-unique : (n e f : ℕ) → IsExponent n e → IsExponent n f → e ≡ f
 exponent-unique n e f p q = le-antisymm (q .greatest e (p .divides)) (p .greatest f (q .divides))
+
+-- a power of two is what a shift of 1 leaves of it in a word of w bits, w above the exponent
+pub power-shifted : (w k : ℕ) → k < w → 1 * 2 ^ k % 2 ^ w ≡ 2 ^ k
+power-shifted w k l = shl-exact 1 k w (lit< tt) (omega arith) ∙ one-mul (2 ^ k)
 
 -- a number is below two to its power
 pub below-power : (n : ℕ) → n < 2 ^ n

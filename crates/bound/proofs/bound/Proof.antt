@@ -2,13 +2,13 @@
 -- what remains is below 2^(v + 1) − 1, so that a remainder other than 0 has a v above 0. Assumes nothing.
 use mathlib.Core.Path.{_≡_, sym, _∙_, ap}
 use Prim.Native.Nat.{ℕ, suc, _+_, _*_, _-_, _/_, _%_, _^_, _≤_, _<_}
-use native.Mathlib.Nat.{mod-lt, one-mul, zero-add}
+use native.Mathlib.Nat.{mod-lt, zero-add}
 use native.Mathlib.Decide.{decLe}
 use native.Mathlib.Omega.{arith}
 use lib.Count.{leadingZeros, leading-top}
-use lib.Dec.{lit<}
-use lib.Pow.{pow-pos, pow-mono, shl-exact}
+use lib.Pow.{pow-pos, pow-mono}
 use borrow.Author.Needs.{needs}
+use Rattle.integers.proofs.Exponent.{power-shifted}
 use Rattle.bound.specs.Bound.{bound, log2, greedy}
 use Rattle.bound.proofs.Computed.{log2-unique, greedy-0, greedy-step}
 use Rattle.bound.proofs.Table.{bound-most}
@@ -54,9 +54,6 @@ module _ (m : ℕ) (low : 1 ≤ m) (high : m ≤ 64) where
 abbrev part : ℕ → ℕ
 part v = 1 * 2 ^ v % 2 ^ 32 - 1
 
-power : (v : ℕ) → v ≤ 6 → 1 * 2 ^ v % 2 ^ 32 ≡ 2 ^ v
-power v h = shl-exact 1 v 32 (lit< tt) (omega arith) ∙ one-mul (2 ^ v)
-
 module _ (m v rem n : ℕ) (p : Adding m v rem n) where
   -- no more is added than to the largest bound
   adds-most : n + greedy v rem ≤ 66
@@ -74,7 +71,7 @@ module _ (m v rem n : ℕ) (p : Adding m v rem n) where
 
   module _ (a : ¬ (rem ≡ 0)) where
     exact : part v ≡ 2 ^ v - 1
-    exact = ap (λ x. x - 1) (power v (p .few))
+    exact = ap (λ x. x - 1) (power-shifted 32 v (omega (arith, p .few)))
 
     part-least : 0 < part v
     part-least = rw exact (omega (arith, pow-mono {i = 1} {j = v} (above a)))
@@ -110,7 +107,7 @@ shl-a : tie.Need-shl-a Inv-loop μ-loop
 shl-a c = search needs
 
 sub-a : tie.Need-sub-a Inv-loop μ-loop
-sub-a c = let l = c .before .loop in omega (arith, power (l .v) (l .inv .few), pow-pos (l .v))
+sub-a c = let l = c .before .loop in omega (arith, power-shifted 32 (l .v) (omega (arith, l .inv .few)), pow-pos (l .v))
 
 div-n : tie.Need-div-n Inv-loop μ-loop
 div-n c = let l = c .before .loop in part-least _ (l .v) (l .rem) (l .n) (l .inv) (c .loop-test .taken)

@@ -1,26 +1,21 @@
 -- `words::cut` meets its contract. Below 64 the shifted 1 is 2^m itself; from 64 on, x is below 2^m.
 -- Assumes nothing.
-use mathlib.Core.Path.{_≡_, sym, _∙_}
-use Prim.Native.Nat.{ℕ, _*_, _%_, _^_, _<_}
-use native.Mathlib.Omega.{arith}
-use native.Mathlib.Nat.{mod-eq-of-lt, lt-of-lt-of-le, one-mul}
-use lib.Dec.{lit<}
-use lib.Pow.{pow-pos, pow-mono, shl-exact}
+use mathlib.Core.Path.{sym}
+use native.Mathlib.Nat.{mod-eq-of-lt, lt-of-lt-of-le}
+use lib.Pow.{pow-pos, pow-mono}
 use borrow.Author.Needs.{needs}
+use Rattle.integers.proofs.Exponent.{power-shifted}
 use Rattle.words.proofs.cut.Statement.{statement}
 use Rattle.words.proofs.cut.Tie as tie
-
-one-shifted : (m : ℕ) → m < 64 → (1 * 2 ^ m) % 2 ^ 64 ≡ 2 ^ m
-one-shifted m l = shl-exact 1 m 64 (lit< tt) (omega arith) ∙ one-mul (2 ^ m)
 
 shl-result : tie.Need-shl-result
 shl-result c = search needs
 
 rem-result : tie.Need-rem-result
-rem-result c = rw (one-shifted (c .before .args .m) (search needs)) (pow-pos _)
+rem-result c = rw (power-shifted 64 (c .before .args .m) (search needs)) (pow-pos _)
 
 returns : tie.Need-returns
-returns c = rw (one-shifted (c .before .args .m) (search needs))
+returns c = rw (power-shifted 64 (c .before .args .m) (search needs))
 
 returns-2 : tie.Need-returns-2
 returns-2 c = sym (mod-eq-of-lt (lt-of-lt-of-le (c .before .fits .x .fits) (pow-mono (c .if1 .left))))

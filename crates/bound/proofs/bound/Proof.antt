@@ -28,12 +28,23 @@ Inv-loop m rem₀ v₀ n₀ rem v n = Adding m v rem n
 abbrev μ-loop : tie.MeasureT-loop
 μ-loop m rem₀ v₀ n₀ rem v n = v
 
+none : (v : ℕ) → ¬ (1 ≤ v) → v ≡ 0
+none v n = omega arith
+
 module _ (m : ℕ) (low : 1 ≤ m) (high : m ≤ 64) where
   top : (j : ℕ) × (leadingZeros 32 (1 + m) + suc j ≡ 32) × (2 ^ j ≤ 1 + m) × (1 + m < 2 ^ suc j)
   top = leading-top 32 (1 + m) (omega arith) (omega arith)
 
   logarithm : 31 - leadingZeros 32 (1 + m) ≡ top .0
   logarithm = omega (arith, top .1)
+
+  -- the logarithm is 1 or more
+  zeros-most : leadingZeros 32 (1 + m) ≤ 30
+  zeros-most =
+      elim (decLe 1 (top .0)) [
+        | yes l ↦ omega (arith, top .1)
+        | no n ↦ absurd (omega (arith, top .3, ap (λ i. 2 ^ suc i) (none (top .0) n)))
+      ]
 
   start : Adding m (31 - leadingZeros 32 (1 + m)) m 0
   start =
@@ -64,10 +75,7 @@ module _ (m v rem n : ℕ) (p : Adding m v rem n) where
   ended e = omega (arith, p .adds, greedy-0 v, ap (greedy v) e)
 
   above : ¬ (rem ≡ 0) → 1 ≤ v
-  above a = elim (decLe 1 v) [ yes l ↦ l | no n ↦ absurd (a (omega (arith, p .remains, ap (λ i. 2 ^ suc i) (none n)))) ]
-    where
-      none : ¬ (1 ≤ v) → v ≡ 0
-      none n = omega arith
+  above a = elim (decLe 1 v) [ yes l ↦ l | no n ↦ absurd (a (omega (arith, p .remains, ap (λ i. 2 ^ suc i) (none v n)))) ]
 
   module _ (a : ¬ (rem ≡ 0)) where
     exact : part v ≡ 2 ^ v - 1
@@ -98,7 +106,7 @@ add-v : tie.Need-add-v Inv-loop μ-loop
 add-v c = search needs
 
 sub-v : tie.Need-sub-v Inv-loop μ-loop
-sub-v c = omega (arith, top (c .args .m) (c .pre .0) (c .pre .1) .1)
+sub-v c = omega (arith, zeros-most (c .args .m) (c .pre .0) (c .pre .1))
 
 loop-holds : tie.Need-loop-holds Inv-loop μ-loop
 loop-holds c = start (c .args .m) (c .pre .0) (c .pre .1)

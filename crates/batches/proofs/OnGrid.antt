@@ -15,7 +15,7 @@ use Rattle.places.specs.Places.{size, vectorAt}
 use Rattle.places.proofs.Places.{oneToOne}
 use Rattle.plan.specs.Plan.{Planned}
 use Rattle.plan.specs.declared.Plan.{Plan}
-use Rattle.plan.proofs.Axes.{length-axes, file-grid-least}
+use Rattle.plan.proofs.Axes.{length-file-axes, file-grid-least}
 use Rattle.plan.proofs.Numbers.{grid}
 use Rattle.vectors.proofs.Digits.{below-at}
 use Rattle.batches.specs.Batch.{LanesSet}
@@ -23,7 +23,7 @@ use Rattle.batches.specs.Batch.{LanesSet}
 -- the vector at a place
 pub place-on-grid : (s : List ℕ) → Accepted s → (p : ℕ) → p < size (axesOf (sizesOf s)) → VectorOnGrid s (vectorAt (axesOf (sizesOf s)) p)
 place-on-grid s a p h i g =
-    below-at (axesOf (sizesOf s)) (vectorAt (axesOf (sizesOf s)) p) i (oneToOne (axesOf (sizesOf s)) .below p h) (omega (arith, length-axes s a))
+    below-at (axesOf (sizesOf s)) (vectorAt (axesOf (sizesOf s)) p) i (oneToOne (axesOf (sizesOf s)) .below p h) (omega (arith, length-file-axes s a))
 
 grid-first : (s : List ℕ) → Accepted s → 0 < size (axesOf (sizesOf s))
 unfolding gridSize

@@ -6,7 +6,7 @@ use mathlib.Core.Path.{_≡_, refl, sym, _∙_, ap, subst}
 use Prim.Native.Nat.{ℕ, _+_, _-_, _^_, _≤_, _<_, min}
 use native.Mathlib.Decide.{ℕ-discrete, decLe}
 use native.Mathlib.Omega.{arith}
-use lib.ListN.{length, getD, take, drop, replicate, length-map, length-take, length-append, length-replicate, List·getD-append, List·getD-eq-default}
+use lib.ListN.{length, getD, take, drop, replicate, length-take, List·getD-append, List·getD-eq-default}
 use lib.Seq.{take-at, getD-at, getD-take, getD-drop}
 use borrow.Author.Tests.{eq-eqb, ne-eqb}
 use Rattle.bound.specs.Axes.{axis}
@@ -23,22 +23,24 @@ use Rattle.figures.specs.declared.Figures.{Figures}
 use Rattle.figures.proofs.Exactly.{figures-inside, figures-outside}
 use Rattle.file.specs.Accepted.{Accepted}
 use Rattle.file.specs.Check.{fileNumber, refusalOf}
-use Rattle.fields.specs.File.{sizesOf, stepCount}
+use Rattle.fields.specs.File.{headLength, sizesOf, stepCount}
+use Rattle.fields.proofs.Heads.{length-widths}
 use Rattle.file.proofs.Accepted.{accepted as file-accepted}
 use Rattle.file.proofs.Number.{refusal-number}
 use Rattle.file.proofs.Sound.{number-0}
 use Rattle.file_calls.specs.FileCalls.{CheckCall, OperationsCall, EvaluateCall, operationWords, evaluateWords}
 use Rattle.grid.specs.Grid.{axesOf, gridSize, gridOf}
+use Rattle.grid.proofs.Grids.{length-axes}
 use Rattle.grid_calls.specs.GridCalls.{BoundCall, GridCall, figureWords, boundWords, gridWords}
 use Rattle.grid_calls.proofs.Answered.{grid-refused, grid-accepted}
 use Rattle.integers.specs.Exponent.{IsExponent}
 use Rattle.integers.specs.Modulo.{factorial}
 use Rattle.layouts.specs.AnswerWords.{refusalWords, answerWords}
 use Rattle.layouts.specs.Layout.{has, returned, leaves}
-use Rattle.layouts.specs.Lengths.{wordAt}
+use Rattle.layouts.specs.Lengths.{wordAt, atAxes, atGridSize, gridLength}
 use Rattle.layouts.specs.SessionWords.{sessionFrom}
 use Rattle.layouts.specs.SizeWords.{sizeWords, sizesFrom}
-use Rattle.layouts.proofs.Sessions.{file-widths, file-bytes}
+use Rattle.layouts.proofs.Sessions.{file-bytes}
 use Rattle.layouts.proofs.Sizes.{sizesAsWords}
 use Rattle.lists.specs.Lists.{sumOf}
 use Rattle.lists.proofs.Lists.{map-entry}
@@ -47,7 +49,8 @@ use Rattle.sessions.specs.Calls.{answerTo}
 use Rattle.sessions.specs.Session.{continueRefusal}
 use Rattle.sessions.proofs.Cases.{scratch-accepted as session-scratch}
 use Rattle.sessions.proofs.Step.{answer-refusal}
-use Rattle.sizes.specs.Sizes.{accepted, isRefusal}
+use Rattle.sizes.specs.Padded.{padded}
+use Rattle.sizes.specs.Sizes.{maxInputs, accepted, isRefusal}
 use Rattle.sizes.specs.declared.Refusal.{Refusal}
 use Rattle.sizes.specs.declared.Sizes.{Sizes}
 use Rattle.sizes.proofs.Judged.{number-of}
@@ -59,7 +62,7 @@ use Rattle.demand2.proofs.Demand2.{sumOfMade, differenceOfSum, sumOfDifference}
 use Rattle.file_tables.specs.FileTables.{tableRefusal, madeTable, tableScratch}
 use Rattle.file_tables.proofs.Answers.{made, table-0, table-accepted, scratch-accepted}
 use Rattle.tables.specs.Tables.{differenced, summedUp}
-use Rattle.vectors.proofs.Padded.{padded-entry}
+use Rattle.sizes.proofs.Padded.{length-padded, padded-entry}
 use Rattle.callers.specs.AcceptedInC.{Checked, Stretched, From1To64, Bounded, Gridded, Evaluated, Tabled, Continued, CellsWritten, SumOfTableInC, DifferenceOfSumInC, SumOfDifferenceInC, AcceptedInC}
 use Rattle.callers.proofs.Refused.{right-told, right-left}
 
@@ -89,7 +92,7 @@ module _ (f o o′ : List ℕ) (h : OperationsCall f o 1 o′) where
   operations-said : o′ ≡ operationWords f
   operations-said = wrote (has 2 o) _ o o′ (h .result) (h .out)
 
-  stretch-said : fileNumber f ≡ 0 → o′ ≡ 12 ∷ stepCount f ∷ []
+  stretch-said : fileNumber f ≡ 0 → o′ ≡ headLength (sizesOf f .d) ∷ stepCount f ∷ []
   unfolding operationWords
   stretch-said e = operations-said ∙ rw (eq-eqb (fileNumber f) 0 e)
 
@@ -149,7 +152,7 @@ module _ (m : ℕ) (o o′ : List ℕ) (h : BoundCall m o 1 o′) where
 
 module _ (f o o′ : List ℕ) (h : GridCall f o 1 o′) where
   grid-said : o′ ≡ gridWords f
-  grid-said = wrote (has 12 o) _ o o′ (h .result) (h .out)
+  grid-said = wrote (has gridLength o) _ o o′ (h .result) (h .out)
 
   grid-number : wordAt o′ 0 ≡ fileNumber f
   grid-number =
@@ -158,60 +161,55 @@ module _ (f o o′ : List ℕ) (h : GridCall f o 1 o′) where
         | no n ↦ first (grid-said ∙ grid-refused f n) ∙ refusal-number f 1
       ]
 
-  no-grid : ¬ (wordAt o′ 0 ≡ 0) → drop 3 o′ ≡ replicate 9 0
-  no-grid n = ap (drop 3) (grid-said ∙ grid-refused f (λ e. n (grid-number ∙ e)))
+  no-grid : ¬ (wordAt o′ 0 ≡ 0) → drop atAxes o′ ≡ replicate (maxInputs + 1) 0
+  no-grid n = ap (drop atAxes) (grid-said ∙ grid-refused f (λ e. n (grid-number ∙ e)))
 
   module _ (zero : wordAt o′ 0 ≡ 0) where
     abbrev us : List ℕ
     us = axesOf (sizesOf f)
 
-    abbrev zeros : List ℕ
-    zeros = replicate (8 - sizesOf f .d) 0
-
     sound : Accepted f
     sound = file-accepted f (sym grid-number ∙ zero)
 
-    grid-words : o′ ≡ 0 ∷ 0 ∷ 0 ∷ ((us ++ zeros) ++ (gridSize (sizesOf f) ∷ []))
+    grid-words : o′ ≡ 0 ∷ 0 ∷ 0 ∷ (padded us ++ (gridSize (sizesOf f) ∷ []))
     unfolding gridOf
     grid-words = grid-said ∙ grid-accepted f (sym grid-number ∙ zero)
 
     axes-count : length us ≡ sizesOf f .d
-    unfolding axesOf
-    axes-count = simp (length-map, length-take) (omega (arith, file-widths f (sound .long), sound .inputsHigh))
+    axes-count = length-axes (sizesOf f) (length-widths f) (sound .inputsHigh)
 
-    eight : length (us ++ zeros) ≡ 8
-    eight = rw (length-append, length-replicate, axes-count) (omega (arith, sound .inputsHigh))
+    length-words : length (padded us) ≡ maxInputs
+    length-words = length-padded us (omega (arith, axes-count, sound .inputsHigh))
 
-    axes-first : take (sizesOf f .d) (drop 3 o′) ≡ us
+    axes-first : take (sizesOf f .d) (drop atAxes o′) ≡ us
     axes-first =
-        ap (λ l. take (sizesOf f .d) (drop 3 l)) grid-words
-        ∙ ap (take (sizesOf f .d)) (append-assoc us zeros (gridSize (sizesOf f) ∷ []))
+        ap (λ l. take (sizesOf f .d) (drop atAxes l)) grid-words
+        ∙ ap (take (sizesOf f .d)) (append-assoc us _ (gridSize (sizesOf f) ∷ []))
         ∙ take-at us _ (sizesOf f .d) axes-count
 
-    word-entry : (i : ℕ) → i < 8 → wordAt o′ (3 + i) ≡ getD us i 0
+    word-entry : (i : ℕ) → i < maxInputs → wordAt o′ (atAxes + i) ≡ getD us i 0
     word-entry i high =
-        sym (getD-drop 3 o′ i 0)
-        ∙ ap (λ l. getD (drop 3 l) i 0) grid-words
-        ∙ List·getD-append (us ++ zeros) (gridSize (sizesOf f) ∷ []) 0 i (omega (arith, eight))
-        ∙ ap (λ k. getD (us ++ replicate (8 - k) 0) i 0) (sym axes-count)
+        sym (getD-drop atAxes o′ i 0)
+        ∙ ap (λ l. getD (drop atAxes l) i 0) grid-words
+        ∙ List·getD-append (padded us) (gridSize (sizesOf f) ∷ []) 0 i (omega (arith, length-words))
         ∙ padded-entry us i
 
     axes-smaller :
-        (i : ℕ) → i < sizesOf f .d → (l : ℕ) → IsBound (sizesOf f .m) l → wordAt o′ (3 + i) ≡ min (2 ^ getD (sizesOf f .widths) i 0) l
+        (i : ℕ) → i < sizesOf f .d → (l : ℕ) → IsBound (sizesOf f .m) l → wordAt o′ (atAxes + i) ≡ min (2 ^ getD (sizesOf f .widths) i 0) l
     unfolding axesOf
     axes-smaller i h l b =
         let z = sizesOf f in
         word-entry i (omega (arith, sound .inputsHigh))
         ∙ map-entry (axis (z .m)) (take (z .d) (z .widths)) i
-        (simp length-take (omega (arith, h, file-widths f (sound .long), sound .inputsHigh)))
+        (simp length-take (omega (arith, h, length-widths f, sound .inputsHigh)))
         ∙ ap (axis (z .m)) (getD-take (z .d) (z .widths) i 0 h)
         ∙ axisByLeast (z .m) (getD (z .widths) i 0) l b
 
-    others-zero : (i : ℕ) → sizesOf f .d ≤ i → i < 8 → wordAt o′ (3 + i) ≡ 0
+    others-zero : (i : ℕ) → sizesOf f .d ≤ i → i < maxInputs → wordAt o′ (atAxes + i) ≡ 0
     others-zero i low high = word-entry i high ∙ List·getD-eq-default us 0 (omega (arith, axes-count))
 
-    size-last : wordAt o′ 11 ≡ gridSize (sizesOf f)
-    size-last = ap (λ l. wordAt l 11) grid-words ∙ getD-at (us ++ zeros) (gridSize (sizesOf f)) [] 0 8 eight
+    size-last : wordAt o′ atGridSize ≡ gridSize (sizesOf f)
+    size-last = ap (λ l. wordAt l atGridSize) grid-words ∙ getD-at (padded us) (gridSize (sizesOf f)) [] 0 maxInputs length-words
 
   gridded : Gridded f o′
   gridded =

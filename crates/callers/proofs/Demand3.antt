@@ -19,7 +19,8 @@ use Rattle.layouts.specs.Lengths.{wordAt, atNumber, atPosition, atMark, atVecto
 use Rattle.layouts.specs.SessionWords.{markWord, sessionWords}
 use Rattle.layouts.specs.Statement.{ByteSession}
 use Rattle.layouts.proofs.Answers.{answersAsWords}
-use Rattle.layouts.proofs.Sessions.{sessionsAsWords, position-next, mark-last, file-widths}
+use Rattle.fields.proofs.Heads.{length-widths}
+use Rattle.layouts.proofs.Sessions.{sessionsAsWords, position-next, mark-last}
 use Rattle.places.proofs.LastAxis.{length-below}
 use Rattle.session_calls.specs.SessionCalls.{openFits, OpenCall}
 use Rattle.sessions.specs.Calls.{Call, answerTo, sessionAfter, IsRefused as RefusedAnswer, IsVerdict}
@@ -33,8 +34,8 @@ use Rattle.sessions.specs.declared.Session.{Session}
 use Rattle.sessions.proofs.Demand3.{demand3}
 use Rattle.sessions.proofs.Pair.{comparable}
 use Rattle.sizes.specs.Sizes.{maxInputs}
-use Rattle.vectors.specs.Vectors.{padded}
-use Rattle.vectors.proofs.Padded.{padded-entry}
+use Rattle.sizes.specs.Padded.{padded}
+use Rattle.sizes.proofs.Padded.{padded-entry}
 use Rattle.callers.specs.Demand3InC.{ShowsFirstInC, SettledInC, LaterInC, FinishedInC, UnfinishedInC, WholeInC, Demand3InC}
 use Rattle.callers.specs.Made.{Made, kind, left, IsRefused, GivesVerdict, OwnFiles, budgets}
 use Rattle.callers.proofs.Mirror.{call, Answered, Mirror, Mirrored, mirrored, held-after, left-words, kind-told, refused-told, refused-given, budgets-told, runs-told, each-told, allowed-told, passed, found}
@@ -150,7 +151,7 @@ module _ (f₁ f₂ : List ℕ) (sound : Accepted f₁) {σ : Session} {c : Made
   -- a full-width vector has d values
   length-full : (x : List ℕ) → length x ≡ length (ranges (widthsOf (sizesOf f₁))) → length x ≡ sizesOf f₁ .d
   length-full x e =
-      e ∙ simp (length-map, length-take) (omega (arith, file-widths f₁ (sound .long), sound .inputsHigh))
+      e ∙ simp (length-map, length-take) (omega (arith, length-widths f₁, sound .inputsHigh))
 
   shown : ShowsFirst f₁ f₂ (said a) → ShowsFirstInC f₁ f₂ c
   shown s =

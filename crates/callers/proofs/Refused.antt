@@ -13,10 +13,10 @@ use borrow.Author.Tests.{ne-eqb}
 use Rattle.evaluate.specs.Evaluate.{refusalAt, evaluatedAt, evaluatedScratch}
 use Rattle.file.specs.Check.{refusalOf}
 use Rattle.file_calls.specs.FileCalls.{EvaluateCall, operationsLength, operationWords, evaluateLength, evaluateWords}
-use Rattle.grid_calls.specs.GridCalls.{boundLength, boundWords, gridLength, gridWords}
+use Rattle.grid_calls.specs.GridCalls.{boundLength, boundWords, gridWords}
 use Rattle.layouts.specs.AnswerWords.{refusalWords, kindWord, answerWords}
 use Rattle.layouts.specs.Layout.{has, returned, leaves}
-use Rattle.layouts.specs.Lengths.{wordAt, atNumber, sessionLength, refusalLength, answerLength}
+use Rattle.layouts.specs.Lengths.{wordAt, atNumber, sessionLength, refusalLength, gridLength, answerLength}
 use Rattle.layouts.specs.SessionWords.{markWord, sessionWords, sessionFits, sessionFrom}
 use Rattle.layouts.specs.SizeWords.{sizeWords, sizesFrom}
 use Rattle.layouts.proofs.Sessions.{sessionsAsWords}

@@ -10,7 +10,8 @@ use lib.ListN.{length, take, drop, length-take, length-drop, take-append-drop}
 use lib.Seq.{take-append-le}
 use Rattle.fields.specs.File.{sizesOf}
 use Rattle.layouts.specs.AnswerWords.{kindFrom, answerWords, answerFits, answerFrom}
-use Rattle.layouts.specs.Lengths.{wordAt, atNumber}
+use Rattle.sizes.specs.Sizes.{maxInputs}
+use Rattle.layouts.specs.Lengths.{wordAt, atNumber, atVector, atOutput₁, atOutput₂, answerLength}
 use Rattle.layouts.specs.SessionWords.{sessionFrom}
 use Rattle.layouts.proofs.Answers.{answersAsWords}
 use Rattle.layouts.proofs.Sessions.{sessionsAsWords}
@@ -165,7 +166,7 @@ pub verdictTextInC : VerdictTextInC
 unfolding answerFrom
 verdictTextInC f₁ f₂ a n t l t′ l′ r o v =
     let s = shownAsIs f₁ f₂ o (answerFrom a) n (verdict-given f₁ f₂ a n t l t′ l′ r v) in
-    let long : length a ≡ 15 = takenInC .reporting f₁ f₂ a n t l 1 t′ l′ r .taken .0 refl .answer in
+    let long : length a ≡ answerLength = takenInC .reporting f₁ f₂ a n t l 1 t′ l′ r .taken .0 refl .answer in
     stands f₁ f₂ a n t l t′ l′ r
     (rw (text-given f₁ f₂ a n t l t′ l′ r (verdict-most f₁ f₂ a n t l t′ l′ r v))
     (record {
@@ -174,7 +175,7 @@ verdictTextInC f₁ f₂ a n t l t′ l′ r o v =
       equivalent = λ e. s .equivalent (kind-given a kind-2 e);
       differs = λ e.
           s .differs (kind-given a kind-3 e)
-          ∙ ap (λ x. differWords x (wordAt a 13) (wordAt a 14)) (front (sizesOf f₁ .d) 8 (drop 5 a) (rw (length-take, length-drop) (omega (arith, long, comparable f₁ f₂ (pair-accepted f₁ f₂ o) .sound₁ .inputsHigh))));
+          ∙ ap (λ x. differWords x (wordAt a atOutput₁) (wordAt a atOutput₂)) (front (sizesOf f₁ .d) maxInputs (drop atVector a) (rw (length-take, length-drop) (omega (arith, long, comparable f₁ f₂ (pair-accepted f₁ f₂ o) .sound₁ .inputsHigh))));
     }))
 
 pub noTextInC : NoTextInC

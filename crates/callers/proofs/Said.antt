@@ -18,7 +18,7 @@ use Rattle.grid_calls.specs.GridCalls.{boundWords, gridWords, noGrid, gridAsWor
 use Rattle.grid_calls.proofs.Answered.{grid-refused, grid-accepted}
 use Rattle.layouts.specs.AnswerWords.{refusalWords, kindWord, answerWords}
 use Rattle.layouts.specs.Layout.{has}
-use Rattle.layouts.specs.Lengths.{wordAt}
+use Rattle.layouts.specs.Lengths.{wordAt, gridLength}
 use Rattle.layouts.specs.SessionWords.{sessionFrom}
 use Rattle.layouts.specs.SizeWords.{sizesFrom}
 use Rattle.ranges.proofs.Search.{cond-each}
@@ -150,7 +150,7 @@ saidInC =
       bound = λ m o o′ h.
           says (figuresOf m .refusal) o′ (figuresOf m .bound ∷ figuresOf m .quotients)
           (wrote (has 10 o) _ o o′ (h .result) (h .out)) (plain-bound m);
-      grid = λ f o o′ h. grid-says f o′ (wrote (has 12 o) _ o o′ (h .result) (h .out));
+      grid = λ f o o′ h. grid-says f o′ (wrote (has gridLength o) _ o o′ (h .result) (h .out));
       evaluating = λ f x s o s′ o′ h.
           says (refusalAt f x (length s)) o′ _ (wrote (has 4 o) _ o o′ (h .result) (h .out)) (plain-at f x (length s));
       making = λ f s t o s′ t′ o′ h.

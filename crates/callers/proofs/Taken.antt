@@ -1,4 +1,4 @@
--- Which calls the C functions take: the test of each layout, told in numbers.
+-- Which calls the C functions take: the test of each layout, told in lengths.
 use mathlib.Core.Bool.{Bool, true, false, _&&_, and-eq-true-iff}
 use mathlib.Core.List.{List}
 use mathlib.Core.Path.{_≡_, refl}
@@ -8,6 +8,7 @@ use lib.Dec.{leb}
 use lib.ListN.{length}
 use borrow.Author.Tests.{leb-true, le-leb, eqb-true, eq-eqb}
 use Rattle.layouts.specs.Layout.{has, returned}
+use Rattle.layouts.specs.Lengths.{sessionLength, gridLength, answerLength}
 use Rattle.layouts.specs.SessionWords.{sessionFits}
 use Rattle.layouts.specs.SizeWords.{sizesFit}
 use Rattle.layouts.proofs.Told.{sizes-told, sizes-fit, session-told, session-fits}
@@ -46,24 +47,24 @@ module _ (w o : List ℕ) where
   open-told : openFits w o ≡ true → OpenLaid w o
   unfolding openFits
   open-told e =
-      let p = and-eq-true-iff (has 12 w) (has 3 o) .0 e in
-      record { session = eqb-true (length w) 12 (p .0); out = eqb-true (length o) 3 (p .1) }
+      let p = and-eq-true-iff (has sessionLength w) (has 3 o) .0 e in
+      record { session = eqb-true (length w) sessionLength (p .0); out = eqb-true (length o) 3 (p .1) }
 
   open-fits : OpenLaid w o → openFits w o ≡ true
   unfolding openFits
-  open-fits c = rw (eq-eqb (length w) 12 (c .session)) (eq-eqb (length o) 3 (c .out))
+  open-fits c = rw (eq-eqb (length w) sessionLength (c .session)) (eq-eqb (length o) 3 (c .out))
 
   continue-told : continueFits w o ≡ true → ContinueLaid w o
   unfolding continueFits
   continue-told e =
-      let p = and-eq-true-iff (has 15 o) (sessionFits w) .0 e in
+      let p = and-eq-true-iff (has answerLength o) (sessionFits w) .0 e in
       let t = session-told w (p .1) in
-      record { session = t .long; small = t .bytes .small; mark = t .mark; answer = eqb-true (length o) 15 (p .0) }
+      record { session = t .long; small = t .bytes .small; mark = t .mark; answer = eqb-true (length o) answerLength (p .0) }
 
   continue-fits : ContinueLaid w o → continueFits w o ≡ true
   unfolding continueFits
   continue-fits c =
-      rw (eq-eqb (length o) 15 (c .answer))
+      rw (eq-eqb (length o) answerLength (c .answer))
       (session-fits w
       (record { long = c .session; bytes = record { long = omega (arith, c .session); small = c .small }; mark = c .mark }))
 
@@ -71,10 +72,10 @@ module _ (a t o : List ℕ) where
   report-told : reportFits a t o ≡ true → ReportLaid a t o
   unfolding reportFits
   report-told e =
-      let p = and-eq-true-iff (has 15 a && leb 512 (length t)) (has 1 o) .0 e in
-      let q = and-eq-true-iff (has 15 a) (leb 512 (length t)) .0 (p .0) in
+      let p = and-eq-true-iff (has answerLength a && leb 512 (length t)) (has 1 o) .0 e in
+      let q = and-eq-true-iff (has answerLength a) (leb 512 (length t)) .0 (p .0) in
       record {
-        answer = eqb-true (length a) 15 (q .0);
+        answer = eqb-true (length a) answerLength (q .0);
         text = leb-true 512 (length t) (q .1);
         out = eqb-true (length o) 1 (p .1);
       }
@@ -82,7 +83,7 @@ module _ (a t o : List ℕ) where
   report-fits : ReportLaid a t o → reportFits a t o ≡ true
   unfolding reportFits
   report-fits c =
-      rw (eq-eqb (length a) 15 (c .answer), le-leb 512 (length t) (c .text)) (eq-eqb (length o) 1 (c .out))
+      rw (eq-eqb (length a) answerLength (c .answer), le-leb 512 (length t) (c .text)) (eq-eqb (length o) 1 (c .out))
 
 pub takenInC : TakenInC
 takenInC =
@@ -90,7 +91,7 @@ takenInC =
       checking = λ f o r o′ h. takes-out 3 o r (h .result);
       operations = λ f o r o′ h. takes-out 2 o r (h .result);
       bound = λ m o r o′ h. takes-out 10 o r (h .result);
-      grid = λ f o r o′ h. takes-out 12 o r (h .result);
+      grid = λ f o r o′ h. takes-out gridLength o r (h .result);
       evaluating = λ f x s o r s′ o′ h. takes-out 4 o r (h .result);
       making = λ f s t o r s′ t′ o′ h. takes-out 3 o r (h .result);
       differencing = λ z y t o r t′ o′ h. takes r (cellsFit z o) (CellsLaid z o) (h .result) (cells-told z o) (cells-fit z o);

@@ -1,12 +1,12 @@
--- What a call that returned 1 answers, for a caller in C, of any words that a C function's contract holds of; the places of the words are the
--- header's numbers. It is proved in proofs/, as acceptedInC. The parameters are those of the contracts: what was given and lent, and the
+-- What a call that returned 1 answers, for a caller in C, of any words that a C function's contract holds of; where the place of a word is no
+-- number it has the header's name, which `layouts` specs/Statement gives as a number. It is proved in proofs/, as acceptedInC. The parameters are those of the contracts: what was given and lent, and the
 -- slices at exit (with a ′). Word 0 of an answer is the number word; the call is accepted where it is 0. What an accepted continue call says is in
 -- specs/Demand3InC, and the refusal words are in specs/SaidInC.
 --   Checked f o′         of corkbingo_check:
 --     number       the number word is the file's number: that of the first condition of 1 to 8 that it meets, or 0
 --     sound        it is 0 exactly where the file keeps all rules of a file
 --   Stretched f o′       of corkbingo_operations:
---     start, count where the file is accepted, the words are 12 and N
+--     start, count where the file is accepted, the words are the length of its head, 12 or 14 (`fields` specs/File), and N
 --     none         of a refused file they are 0 and 0
 --   Bounded m o′         of corkbingo_bound:
 --     range        the number word is 0 exactly where m is from 1 to 64
@@ -19,10 +19,10 @@
 --     outside      where m is not from 1 to 64 the number word is 2, and the others are 0
 --   Gridded f o′         of corkbingo_grid:
 --     number       the number word is the file's number
---     axes         where it is 0, the first d words from word 3 on are the axes
+--     axes         where it is 0, the first d words of the axes are these
 --     smaller      each of these is the smaller of 2^n, for its input's word length n, and the least number whose factorial is divisible by 2^m
---     others       the other words of the eight from word 3 on are 0
---     size         and word 11 is G
+--     others       their other words are 0
+--     size         and the last word is G
 --     none         in a refusal all words from word 3 on are 0
 --   Evaluated f x s s′ o′     of corkbingo_evaluate, where the number word is 0:
 --     output       word 3 is the output of the file at the vector x
@@ -49,16 +49,17 @@ use Rattle.engine.specs.Engine.{largerCount}
 use Rattle.evaluate.specs.Evaluate.{outputOf}
 use Rattle.file.specs.Accepted.{Accepted}
 use Rattle.file.specs.Check.{fileNumber}
-use Rattle.fields.specs.File.{sizesOf, stepCount}
+use Rattle.fields.specs.File.{headLength, sizesOf, stepCount}
 use Rattle.file_calls.specs.FileCalls.{CheckCall, OperationsCall, EvaluateCall}
 use Rattle.grid.specs.Grid.{axesOf, gridSize}
 use Rattle.grid_calls.specs.GridCalls.{BoundCall, GridCall}
 use Rattle.integers.specs.Exponent.{IsExponent}
 use Rattle.integers.specs.Modulo.{factorial}
-use Rattle.layouts.specs.Lengths.{wordAt}
+use Rattle.layouts.specs.Lengths.{wordAt, atAxes, atGridSize}
 use Rattle.layouts.specs.SizeWords.{sizeWords, sizesFrom}
 use Rattle.lists.specs.Lists.{sumOf}
 use Rattle.session_calls.specs.SessionCalls.{ContinueCall}
+use Rattle.sizes.specs.Sizes.{maxInputs}
 use Rattle.sizes.specs.declared.Sizes.{Sizes}
 use Rattle.table_calls.specs.TableCalls.{TableCall, DifferenceCall, SumCall}
 use Rattle.file_tables.specs.FileTables.{tableOfFile}
@@ -68,7 +69,7 @@ pub record Checked (f o′ : List ℕ) : Type 0 where
   pub sound : (wordAt o′ 0 ≡ 0) ↔ Accepted f
 
 pub record Stretched (f o′ : List ℕ) : Type 0 where
-  pub start : fileNumber f ≡ 0 → wordAt o′ 0 ≡ 12
+  pub start : fileNumber f ≡ 0 → wordAt o′ 0 ≡ headLength (sizesOf f .d)
   pub count : fileNumber f ≡ 0 → wordAt o′ 1 ≡ stepCount f
   pub none : ¬ (fileNumber f ≡ 0) → o′ ≡ 0 ∷ 0 ∷ []
 
@@ -89,13 +90,13 @@ pub record Bounded (m : ℕ) (o′ : List ℕ) : Type 0 where
 
 pub record Gridded (f o′ : List ℕ) : Type 0 where
   pub number : wordAt o′ 0 ≡ fileNumber f
-  pub axes : wordAt o′ 0 ≡ 0 → take (sizesOf f .d) (drop 3 o′) ≡ axesOf (sizesOf f)
+  pub axes : wordAt o′ 0 ≡ 0 → take (sizesOf f .d) (drop atAxes o′) ≡ axesOf (sizesOf f)
   pub smaller :
       wordAt o′ 0 ≡ 0 → (i : ℕ) → i < sizesOf f .d → (l : ℕ) → IsBound (sizesOf f .m) l →
-      wordAt o′ (3 + i) ≡ min (2 ^ getD (sizesOf f .widths) i 0) l
-  pub others : wordAt o′ 0 ≡ 0 → (i : ℕ) → sizesOf f .d ≤ i → i < 8 → wordAt o′ (3 + i) ≡ 0
-  pub size : wordAt o′ 0 ≡ 0 → wordAt o′ 11 ≡ gridSize (sizesOf f)
-  pub none : ¬ (wordAt o′ 0 ≡ 0) → drop 3 o′ ≡ replicate 9 0
+      wordAt o′ (atAxes + i) ≡ min (2 ^ getD (sizesOf f .widths) i 0) l
+  pub others : wordAt o′ 0 ≡ 0 → (i : ℕ) → sizesOf f .d ≤ i → i < maxInputs → wordAt o′ (atAxes + i) ≡ 0
+  pub size : wordAt o′ 0 ≡ 0 → wordAt o′ atGridSize ≡ gridSize (sizesOf f)
+  pub none : ¬ (wordAt o′ 0 ≡ 0) → drop atAxes o′ ≡ replicate (maxInputs + 1) 0
 
 pub record Evaluated (f x s s′ o′ : List ℕ) : Type 0 where
   pub output : wordAt o′ 3 ≡ outputOf f x

@@ -20,7 +20,7 @@ use mathlib.Core.Path.{_≡_}
 use Prim.Native.Nat.{ℕ, _<_}
 use lib.ListN.{length, take, drop}
 use Rattle.fields.specs.File.{sizesOf}
-use Rattle.layouts.specs.Lengths.{wordAt, atNumber}
+use Rattle.layouts.specs.Lengths.{wordAt, atNumber, atVector, atOutput₁, atOutput₂}
 use Rattle.printed.specs.Claims.{differWords, ThreeLines, Refuses}
 use Rattle.printed.specs.Report.{printed}
 use Rattle.text.specs.Text.{ascii, wordsOf}
@@ -85,7 +85,7 @@ pub record ShowsWords (f₁ a : List ℕ) (n : ℕ) (text : List ℕ) : Type 0 w
   -- that one word where the kind word is 2
   pub equivalent : wordAt a 3 ≡ 2 → verdict ≡ ascii "equivalent"
   -- where it is 3, the first d words of the vector, and the two output words
-  pub differs : wordAt a 3 ≡ 3 → wordsOf verdict ≡ differWords (take (sizesOf f₁ .d) (drop 5 a)) (wordAt a 13) (wordAt a 14)
+  pub differs : wordAt a 3 ≡ 3 → wordsOf verdict ≡ differWords (take (sizesOf f₁ .d) (drop atVector a)) (wordAt a atOutput₁) (wordAt a atOutput₂)
 
 abbrev pub VerdictTextInC : Type 0
 VerdictTextInC =

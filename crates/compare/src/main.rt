@@ -2,7 +2,7 @@
 // named by two arguments; where there are none, they are a.dp and b.dp in the current folder. With another count of
 // arguments it says how it is called, and compares nothing.
 use comparison::compare;
-use fields::HEAD;
+use fields::LONG_HEAD;
 use fields::STEPS;
 use input::read_input;
 use input::say_usage;
@@ -10,9 +10,9 @@ use libc::STDOUT_FILENO;
 use reading::none_or_two;
 use report::TEXT_ROOM;
 
-// One byte more than the longest file that is accepted, its head and 9 bytes for each step: a longer file is seen to
-// be longer, and is refused by its length.
-const ROOM: usize = HEAD + 9 * STEPS + 1;
+// One byte more than the longest file that is accepted, a long head and 9 bytes for each step: a longer file is seen
+// to be longer, and is refused by its length.
+const ROOM: usize = LONG_HEAD + 9 * STEPS + 1;
 
 fn main() {
     let count = os::arg_count();

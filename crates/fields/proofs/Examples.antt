@@ -4,15 +4,15 @@ use mathlib.Core.Path.{_≡_, refl}
 use Prim.Native.Nat.{ℕ}
 use Rattle.datapath.specs.declared.Step.the-variants.{Subtract}
 use Rattle.words.specs.Bytes.{little}
-use Rattle.fields.specs.File.{sizesOf, stepCount, operation, argument}
+use Rattle.fields.specs.File.{widthBytes, sizesOf, stepCount, operation, argument}
 use Rattle.fields.specs.Steps.{decoded, stepAt}
 
 -- m 16, d 8, N 257, word lengths 1 to 8
 head : List ℕ
 head = 0x10 ∷ 0x08 ∷ 0x01 ∷ 0x01 ∷ 0x01 ∷ 0x02 ∷ 0x03 ∷ 0x04 ∷ 0x05 ∷ 0x06 ∷ 0x07 ∷ 0x08 ∷ []
 
-head-sizes : sizesOf head ≡ record { m = 16; d = 8; widths = 1 ∷ 2 ∷ 3 ∷ 4 ∷ 5 ∷ 6 ∷ 7 ∷ 8 ∷ [] }
-unfolding sizesOf head
+head-sizes : sizesOf head ≡ record { m = 16; d = 8; widths = 1 ∷ 2 ∷ 3 ∷ 4 ∷ 5 ∷ 6 ∷ 7 ∷ 8 ∷ 0 ∷ 0 ∷ [] }
+unfolding sizesOf widthBytes head
 head-sizes = refl
 
 head-count : stepCount head ≡ 257
@@ -26,5 +26,5 @@ one-step =
     ++ (0x04 ∷ 0x02 ∷ 0x01 ∷ 0x03 ∷ 0x02 ∷ 0x00 ∷ 0x00 ∷ 0x00 ∷ 0x00 ∷ [])
 
 step-subtracts : stepAt one-step 0 ≡ Subtract 258 515
-unfolding stepAt decoded operation argument stepCount little one-step
+unfolding stepAt decoded operation argument widthBytes sizesOf stepCount little one-step
 step-subtracts = refl

@@ -1,33 +1,66 @@
 -- The fields of a datapath file, a list of bytes (document 01, 'The datapath file').
---   headLength       the bytes of the head, before the operation bytes
+--   shortInputs      the most inputs of a file with a short head, which has a word-length byte for each of these
+--   widthBytes d     the word-length bytes of a file with d inputs: shortInputs, or maxInputs where there are more inputs than that
+--   shortHead, longHead
+--                    the bytes of a short head, the least that a file has, and of a long one, which has maxInputs word-length bytes
+--   headLength d     the bytes of the head of a file with d inputs, before the operation bytes
+--   HeadLengths      they are 12, or 14 where there are more than eight inputs. Proved in proofs/Heads
 --   sizesOf s        m, d and the word lengths
+--   headOf s         the bytes of the file's own head
 --   stepCount s      N
 --   operation s k    the operation byte of step k
 --   argument s k     the argument of step k, a number of 64 bits
 --   leftOperand a, rightOperand a
 --                    of an argument: the left step in the low 16 bits, and the right step in the next 16
 --   operationsOf s   the operation bytes
+use mathlib.Core.Bool.{cond}
 use mathlib.Core.List.{List}
-use Prim.Native.Nat.{ℕ, _+_, _*_, _/_, _%_, _^_}
+use mathlib.Core.Path.{_≡_}
+use Prim.Native.Nat.{ℕ, _+_, _*_, _/_, _%_, _^_, _≤_, _<_}
+use lib.Dec.{leb}
 use lib.ListN.{getD, take, drop}
 use Rattle.sizes.specs.declared.Sizes.{Sizes}
+use Rattle.sizes.specs.Padded.{padded}
 use Rattle.sizes.specs.Sizes.{maxInputs}
 use Rattle.words.specs.Bytes.{little}
 
-abbrev pub headLength : ℕ
-headLength = 12
+abbrev pub shortInputs : ℕ
+shortInputs = 8
+
+unfoldable pub widthBytes : ℕ → ℕ
+widthBytes d = cond (leb d shortInputs) shortInputs maxInputs
+
+-- where the word lengths begin
+abbrev pub widthsFrom : ℕ
+widthsFrom = 4
+
+abbrev pub shortHead : ℕ
+shortHead = widthsFrom + shortInputs
+
+abbrev pub longHead : ℕ
+longHead = widthsFrom + maxInputs
+
+abbrev pub headLength : ℕ → ℕ
+headLength d = widthsFrom + widthBytes d
+
+pub record HeadLengths : Type 0 where
+  pub short : (d : ℕ) → d ≤ 8 → headLength d ≡ 12
+  pub long : (d : ℕ) → 8 < d → headLength d ≡ 14
 
 unfoldable pub sizesOf : List ℕ → Sizes
-sizesOf s = record { m = getD s 0 0; d = getD s 1 0; widths = take maxInputs (drop 4 s) }
+sizesOf s = record { m = getD s 0 0; d = getD s 1 0; widths = padded (take (widthBytes (getD s 1 0)) (drop widthsFrom s)) }
+
+abbrev pub headOf : List ℕ → ℕ
+headOf s = headLength (sizesOf s .d)
 
 unfoldable pub stepCount : List ℕ → ℕ
 stepCount s = little 2 s 2
 
 unfoldable pub operation : List ℕ → ℕ → ℕ
-operation s k = getD s (headLength + k) 0
+operation s k = getD s (headOf s + k) 0
 
 unfoldable pub argument : List ℕ → ℕ → ℕ
-argument s k = little 8 s (headLength + stepCount s + 8 * k)
+argument s k = little 8 s (headOf s + stepCount s + 8 * k)
 
 abbrev pub leftOperand : ℕ → ℕ
 leftOperand a = a % 2 ^ 16
@@ -36,4 +69,4 @@ abbrev pub rightOperand : ℕ → ℕ
 rightOperand a = a / 2 ^ 16 % 2 ^ 16
 
 unfoldable pub operationsOf : List ℕ → List ℕ
-operationsOf s = take (stepCount s) (drop headLength s)
+operationsOf s = take (stepCount s) (drop (headOf s) s)

@@ -6,10 +6,15 @@ use words::le16;
 use words::le64;
 ghost use mathlib.Core.Path.{_≡_};
 ghost use Prim.Native.Nat.{_+_, _*_, _^_, _≤_, _<_};
-ghost use lib.ListN.{length};
+ghost use lib.ListN.{length, take, drop};
+ghost use Rattle.sizes.specs.Padded.{padded};
+ghost use Rattle.sizes.specs.Sizes.{maxInputs};
 ghost use Rattle.fields.specs.File.{
-  headLength,
+  widthBytes,
+  widthsFrom,
+  shortHead,
   sizesOf,
+  headOf,
   stepCount,
   operation,
   argument,
@@ -18,34 +23,75 @@ ghost use Rattle.fields.specs.File.{
 };
 ghost use Rattle.fields.specs.Steps.{stepAt};
 
-// The bytes of the head, before the operation bytes.
-pub const HEAD: usize = 12;
+// Where the word lengths of the inputs begin.
+const WIDTHS: usize = 4;
+
+// The most inputs of a file with a short head, which has a word-length byte for each of these.
+const SHORT_INPUTS: usize = 8;
+
+// The bytes of a short head, the least that a file has.
+pub const SHORT_HEAD: usize = WIDTHS + SHORT_INPUTS;
+
+// The bytes of a long head, which has a word-length byte for each input that a file may have.
+pub const LONG_HEAD: usize = WIDTHS + INPUTS;
 
 // The largest count of steps.
 pub const STEPS: usize = 1024;
 
-// Where the word lengths of the inputs begin.
-const WIDTHS: usize = 4;
-
 // m alone, the output word length.
 pub fn output_length(file: &[u8]) -> u64
-    requires { ⌜ headLength ≤ length (now file) ⌝ }
+    requires { ⌜ shortHead ≤ length (now file) ⌝ }
     ensures { λ r. ⌜ r ≡ sizesOf (now (file .entry)) .m ⌝ }
 {
     file[0] as u64
 }
 
-// m, d and the word lengths.
-pub fn read_sizes(file: &[u8]) -> Sizes
-    requires { ⌜ headLength ≤ length (now file) ⌝ }
-    ensures { λ r. ⌜ r ≡ sizesOf (now (file .entry)) ⌝ }
+// d alone, the count of inputs.
+pub fn input_count(file: &[u8]) -> u64
+    requires { ⌜ shortHead ≤ length (now file) ⌝ }
+    ensures { λ r. ⌜ r ≡ sizesOf (now (file .entry)) .d ⌝ }
+{
+    file[1] as u64
+}
+
+// The word-length bytes of a file with d inputs.
+fn width_bytes(d: u64) -> usize
+    ensures { λ r. ⌜ r ≡ widthBytes d ⌝ }
+{
+    if d <= SHORT_INPUTS as u64 {
+        return SHORT_INPUTS;
+    }
+    INPUTS
+}
+
+// The bytes of the file's head, before the operation bytes.
+pub fn head_length(file: &[u8]) -> usize
+    requires { ⌜ shortHead ≤ length (now file) ⌝ }
+    ensures { λ r. ⌜ r ≡ headOf (now (file .entry)) ⌝ }
+{
+    WIDTHS + width_bytes(input_count(file))
+}
+
+// The first `count` word-length bytes, and 0 after them.
+fn read_widths(file: &[u8], count: usize) -> [u8; INPUTS]
+    requires { ⌜ (count ≤ maxInputs) × (widthsFrom + count ≤ length (now file)) ⌝ }
+    ensures { λ r. ⌜ r ≡ padded (take count (drop widthsFrom (now (file .entry)))) ⌝ }
 {
     let mut widths = [0u8; INPUTS];
     let mut i = 0;
-    while i < INPUTS {
+    while i < count {
         widths[i] = file[WIDTHS + i];
         i += 1;
     }
+    widths
+}
+
+// m, d and the word lengths.
+pub fn read_sizes(file: &[u8]) -> Sizes
+    requires { ⌜ headOf (now file) ≤ length (now file) ⌝ }
+    ensures { λ r. ⌜ r ≡ sizesOf (now (file .entry)) ⌝ }
+{
+    let widths = read_widths(file, width_bytes(input_count(file)));
     Sizes {
         m: output_length(file) as u8,
         d: file[1],
@@ -55,7 +101,7 @@ pub fn read_sizes(file: &[u8]) -> Sizes
 
 // N, the count of steps.
 pub fn step_count(file: &[u8]) -> usize
-    requires { ⌜ headLength ≤ length (now file) ⌝ }
+    requires { ⌜ headOf (now file) ≤ length (now file) ⌝ }
     ensures { λ r. ⌜ (r ≡ stepCount (now (file .entry))) × (r < 2 ^ 16) ⌝ }
 {
     le16(file, 2) as usize
@@ -63,18 +109,18 @@ pub fn step_count(file: &[u8]) -> usize
 
 // The operation byte of step k.
 pub fn operation(file: &[u8], k: usize) -> u8
-    requires { ⌜ headLength + k < length (now file) ⌝ }
+    requires { ⌜ headOf (now file) + k < length (now file) ⌝ }
     ensures { λ r. ⌜ (r ≡ operation (now (file .entry)) k) × (r < 2 ^ 8) ⌝ }
 {
-    file[HEAD + k]
+    file[head_length(file) + k]
 }
 
 // The argument of step k, given N.
 pub fn argument(file: &[u8], n: usize, k: usize) -> u64
-    requires { ⌜ (n ≡ stepCount (now file)) × (headLength + n + 8 * k + 8 ≤ length (now file)) ⌝ }
+    requires { ⌜ (n ≡ stepCount (now file)) × (headOf (now file) + n + 8 * k + 8 ≤ length (now file)) ⌝ }
     ensures { λ r. ⌜ (r ≡ argument (now (file .entry)) k) × (r < 2 ^ 64) ⌝ }
 {
-    le64(file, HEAD + n + 8 * k)
+    le64(file, head_length(file) + n + 8 * k)
 }
 
 // Of an argument of 64 bits: the left step, in the low 16 bits.
@@ -94,7 +140,7 @@ pub fn right_operand(a: u64) -> usize
 // Step k, given N, decoded from its operation byte and its argument. An operation byte past 5, which no accepted file
 // has, reads as 5.
 pub fn step_at(file: &[u8], n: usize, k: usize) -> Step
-    requires { ⌜ (n ≡ stepCount (now file)) × (headLength + n + 8 * k + 8 ≤ length (now file)) ⌝ }
+    requires { ⌜ (n ≡ stepCount (now file)) × (headOf (now file) + n + 8 * k + 8 ≤ length (now file)) ⌝ }
     ensures { λ r. ⌜ r ≡ stepAt (now (file .entry)) k ⌝ }
 {
     let op = operation(file, k);

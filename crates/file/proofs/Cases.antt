@@ -13,19 +13,20 @@ use borrow.Author.Tests.{lt-ltb, le-ltb, eq-eqb, ne-eqb, ltb-true, ltb-false}
 use Rattle.ranges.proofs.Search.{true-or-false}
 use Rattle.sizes.specs.declared.Sizes.{Sizes}
 use Rattle.sizes.specs.Sizes.{within, badOutput, badInputs, badWidths}
-use Rattle.fields.specs.File.{headLength, sizesOf, stepCount, operation, argument, leftOperand, rightOperand}
-use Rattle.file.specs.Check.{maxSteps, tooShort, badCount, badLength, badOperation, upperHalf, operandsRule, argumentRule, badArgument, stepFault, faultyAt, headFault}
+use Rattle.fields.specs.File.{shortHead, sizesOf, headOf, stepCount, operation, argument, leftOperand, rightOperand}
+use Rattle.fields.proofs.Heads.{head-short}
+use Rattle.file.specs.Check.{maxSteps, tooShort, shortOfHead, badCount, badLength, badOperation, upperHalf, operandsRule, argumentRule, badArgument, stepFault, faultyAt, headFault}
 
 -- r is the outcome of a test f at x, and x is y: what r is, f is at y
 pub told : {A : Type 0} (f : A → Bool) {x y : A} {r b : Bool} → r ≡ f x → x ≡ y → r ≡ b → f y ≡ b
 told f e q t = ap f (sym q) ∙ sym e ∙ t
 
 module _ (s : List ℕ) where
-  pub head-1 : length s < headLength → 1 ≡ headFault s
+  pub head-1 : length s < shortHead → 1 ≡ headFault s
   unfolding headFault tooShort
   head-1 l = simp (lt-ltb _ _ l)
 
-  module _ (long : headLength ≤ length s) where
+  module _ (long : shortHead ≤ length s) where
     pub head-2 : badOutput (sizesOf s) ≡ true → 2 ≡ headFault s
     unfolding headFault tooShort
     head-2 e = simp (le-ltb _ _ long, e)
@@ -35,24 +36,28 @@ module _ (s : List ℕ) where
       unfolding headFault tooShort
       head-3 e = simp (le-ltb _ _ long, output, e)
 
-      module _ (inputs : badInputs (sizesOf s) ≡ false) where
-        pub head-4 : within 1 maxSteps (stepCount s) ≡ false → 4 ≡ headFault s
-        unfolding headFault tooShort badCount
-        head-4 e = simp (le-ltb _ _ long, output, inputs, e)
+      pub own-head-1 : badInputs (sizesOf s) ≡ false → length s < headOf s → 1 ≡ headFault s
+      unfolding headFault tooShort shortOfHead
+      own-head-1 inputs l = simp (le-ltb _ _ long, output, inputs, lt-ltb _ _ l)
 
-        module _ (count : within 1 maxSteps (stepCount s) ≡ true) where
-          pub head-5 : badWidths (sizesOf s) ≡ true → 5 ≡ headFault s
-          unfolding headFault tooShort badCount
-          head-5 e = simp (le-ltb _ _ long, output, inputs, count, e)
+  module _ (whole : headOf s ≤ length s) (output : badOutput (sizesOf s) ≡ false) (inputs : badInputs (sizesOf s) ≡ false) where
+    pub head-4 : within 1 maxSteps (stepCount s) ≡ false → 4 ≡ headFault s
+    unfolding headFault tooShort shortOfHead badCount
+    head-4 e = simp (le-ltb _ _ (head-short s whole), output, inputs, le-ltb _ _ whole, e)
 
-          module _ (widths : badWidths (sizesOf s) ≡ false) where
-            pub head-6 : (length s ≡ headLength + 9 * stepCount s → ⊥) → 6 ≡ headFault s
-            unfolding headFault tooShort badCount badLength
-            head-6 n = simp (le-ltb _ _ long, output, inputs, count, widths, ne-eqb _ _ n)
+    module _ (count : within 1 maxSteps (stepCount s) ≡ true) where
+      pub head-5 : badWidths (sizesOf s) ≡ true → 5 ≡ headFault s
+      unfolding headFault tooShort shortOfHead badCount
+      head-5 e = simp (le-ltb _ _ (head-short s whole), output, inputs, le-ltb _ _ whole, count, e)
 
-            pub head-0 : length s ≡ headLength + 9 * stepCount s → 0 ≡ headFault s
-            unfolding headFault tooShort badCount badLength
-            head-0 e = simp (le-ltb _ _ long, output, inputs, count, widths, eq-eqb _ _ e)
+      module _ (widths : badWidths (sizesOf s) ≡ false) where
+        pub head-6 : (length s ≡ headOf s + 9 * stepCount s → ⊥) → 6 ≡ headFault s
+        unfolding headFault tooShort shortOfHead badCount badLength
+        head-6 n = simp (le-ltb _ _ (head-short s whole), output, inputs, le-ltb _ _ whole, count, widths, ne-eqb _ _ n)
+
+        pub head-0 : length s ≡ headOf s + 9 * stepCount s → 0 ≡ headFault s
+        unfolding headFault tooShort shortOfHead badCount badLength
+        head-0 e = simp (le-ltb _ _ (head-short s whole), output, inputs, le-ltb _ _ whole, count, widths, eq-eqb _ _ e)
 
 module _ (s : List ℕ) (k : ℕ) where
   pub step-7 : within 1 5 (operation s k) ≡ false → 7 ≡ stepFault s k

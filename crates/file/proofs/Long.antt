@@ -1,5 +1,5 @@
 -- Of a file longer than any that is accepted, the first bytes decide. They hold the whole head, so that conditions 1 to 5 are judged alike; and
--- where these pass, N is at most 1,024, so that neither length is 12 + 9N.
+-- where these pass, N is at most 1,024, so that neither length is that of the head and 9N.
 use mathlib.Core.Bool.{true, false, and-eq-true-iff}
 use mathlib.Core.List.{List, _++_}
 use mathlib.Core.Logic.{⊎-elim}
@@ -13,8 +13,9 @@ use borrow.Author.Tests.{le-ltb, ne-eqb, leb-true, not-false}
 use Rattle.ranges.proofs.Search.{true-or-false}
 use Rattle.sizes.specs.Sizes.{maxInputs, within}
 use Rattle.words.specs.Bytes.{little}
-use Rattle.fields.specs.File.{headLength, sizesOf, stepCount}
-use Rattle.file.specs.Check.{maxSteps, tooShort, badCount, badLength, headFault}
+use Rattle.fields.specs.File.{widthBytes, widthsFrom, sizesOf, headOf, stepCount}
+use Rattle.fields.proofs.Heads.{widths-range, head-most, head-short}
+use Rattle.file.specs.Check.{maxSteps, tooShort, shortOfHead, badCount, badLength, headFault}
 use Rattle.file.specs.Long.{longestFile, CutShort, LongFile}
 use Rattle.file.proofs.Number.{head-passed, number-head, refused-head}
 
@@ -22,17 +23,17 @@ module _ (start rest : List ℕ) (long : longestFile < length start) where
   abbrev whole : List ℕ
   whole = start ++ rest
 
-  entry : (i : ℕ) → i < headLength → getD whole i 0 ≡ getD start i 0
+  entry : (i : ℕ) → i < 9 * maxSteps → getD whole i 0 ≡ getD start i 0
   entry i h = List·getD-append start rest 0 i (omega arith)
 
-  same-widths : take maxInputs (drop 4 whole) ≡ take maxInputs (drop 4 start)
-  same-widths =
-      ap (take maxInputs) (drop-append-le 4 start rest (omega arith))
-      ∙ take-append-le maxInputs (drop 4 start) rest (simp length-drop (omega arith))
+  same-widths : (n : ℕ) → n ≤ maxInputs → take n (drop widthsFrom whole) ≡ take n (drop widthsFrom start)
+  same-widths n l =
+      ap (take n) (drop-append-le widthsFrom start rest (omega arith))
+      ∙ take-append-le n (drop widthsFrom start) rest (simp length-drop (omega arith))
 
   same-sizes : sizesOf whole ≡ sizesOf start
   unfolding sizesOf
-  same-sizes = rw (entry 0 (omega arith), entry 1 (omega arith), same-widths)
+  same-sizes = rw (entry 0 (omega arith), entry 1 (omega arith), same-widths (widthBytes (getD start 1 0)) (widths-range (getD start 1 0) .1))
 
   same-count : stepCount whole ≡ stepCount start
   unfolding stepCount little
@@ -45,7 +46,7 @@ module _ (start rest : List ℕ) (long : longestFile < length start) where
   unfolding badCount badLength
   wrong-length s l e =
       let few = few-steps s (not-false (within 1 maxSteps (stepCount s)) e) in
-      rw (ne-eqb (length s) (headLength + 9 * stepCount s) (λ q. omega arith))
+      rw (ne-eqb (length s) (headOf s + 9 * stepCount s) (λ q. omega (arith, head-most s)))
 
   whole-long : longestFile < length whole
   whole-long = simp length-append (omega arith)
@@ -54,20 +55,31 @@ module _ (start rest : List ℕ) (long : longestFile < length start) where
   unfolding badCount
   same-bad-count = rw same-count
 
+  has-head : (s : List ℕ) → longestFile < length s → headOf s ≤ length s
+  has-head s l = omega (arith, head-most s)
+
+  long-enough : (s : List ℕ) → longestFile < length s → (tooShort s ≡ false) × (shortOfHead s ≡ false)
+  unfolding tooShort shortOfHead
+  long-enough s l = (le-ltb _ _ (head-short s (has-head s l)), le-ltb _ _ (has-head s l))
+
   same-head : headFault whole ≡ headFault start
-  unfolding headFault tooShort
+  unfolding headFault
   same-head =
       ⊎-elim
       (λ (t : badCount start ≡ true). rw (
-        le-ltb (length whole) headLength (omega (arith, whole-long)),
-        le-ltb (length start) headLength (omega arith),
+        long-enough whole whole-long .0,
+        long-enough start long .0,
+        long-enough whole whole-long .1,
+        long-enough start long .1,
         same-sizes,
         same-bad-count,
         t,
       ))
       (λ (f : badCount start ≡ false). rw (
-        le-ltb (length whole) headLength (omega (arith, whole-long)),
-        le-ltb (length start) headLength (omega arith),
+        long-enough whole whole-long .0,
+        long-enough start long .0,
+        long-enough whole whole-long .1,
+        long-enough start long .1,
         same-sizes,
         same-bad-count,
         f,
@@ -79,7 +91,7 @@ module _ (start rest : List ℕ) (long : longestFile < length start) where
   head-refuses : ¬ (headFault start ≡ 0)
   head-refuses e =
       let p = head-passed start e in
-      omega (arith, p .size, few-steps start (p .count))
+      omega (arith, p .size, few-steps start (p .count), head-most start)
 
   cut-short : CutShort start rest
   cut-short =

@@ -11,8 +11,8 @@ use lib.ListN.{length}
 use borrow.Author.Tests.{lt-ltb, le-ltb, lt-leb, le-leb, eq-eqb, ne-eqb, ltb-true, ltb-false, eqb-true, eqb-false, not-true, not-false}
 use Rattle.ranges.proofs.Search.{true-or-false, cond-each, first-found}
 use Rattle.sizes.specs.Sizes.{within, badOutput, badInputs, badWidths}
-use Rattle.fields.specs.File.{headLength, sizesOf, stepCount, operationsOf}
-use Rattle.file.specs.Check.{maxSteps, tooShort, badCount, badLength, badOperation, badArgument, stepFault, faultyAt, faultyStep, headFault, fileNumber, shownStep, refusalOf, stretchOf}
+use Rattle.fields.specs.File.{sizesOf, headOf, stepCount, operationsOf}
+use Rattle.file.specs.Check.{maxSteps, tooShort, shortOfHead, badCount, badLength, badOperation, badArgument, stepFault, faultyAt, faultyStep, headFault, fileNumber, shownStep, refusalOf, stretchOf}
 
 pub cond-zero : (b : Bool) (x y : ℕ) → cond b (suc x) y ≡ 0 → (b ≡ false) × (y ≡ 0)
 cond-zero true x y e = absurd (omega arith)
@@ -34,24 +34,25 @@ zero-or-not n yes-zero no-zero =
 module _ (s : List ℕ) where
   -- conditions 1 to 6 do not hold
   pub record Head : Type 0 where
-    pub long : headLength ≤ length s
+    pub long : headOf s ≤ length s
     pub output : badOutput (sizesOf s) ≡ false
     pub inputs : badInputs (sizesOf s) ≡ false
     pub count : within 1 maxSteps (stepCount s) ≡ true
     pub widths : badWidths (sizesOf s) ≡ false
-    pub size : length s ≡ headLength + 9 * stepCount s
+    pub size : length s ≡ headOf s + 9 * stepCount s
 
   pub head-passed : headFault s ≡ 0 → Head
-  unfolding headFault tooShort badCount badLength
+  unfolding headFault shortOfHead badCount badLength
   head-passed e =
       let p1 = cond-zero (tooShort s) 0 _ e in
       let p2 = cond-zero (badOutput (sizesOf s)) 1 _ (p1 .1) in
       let p3 = cond-zero (badInputs (sizesOf s)) 2 _ (p2 .1) in
-      let p4 = cond-zero (badCount s) 3 _ (p3 .1) in
+      let p = cond-zero (shortOfHead s) 0 _ (p3 .1) in
+      let p4 = cond-zero (badCount s) 3 _ (p .1) in
       let p5 = cond-zero (badWidths (sizesOf s)) 4 _ (p4 .1) in
       let p6 = cond-zero (badLength s) 5 _ (p5 .1) in
       record {
-        long = ltb-false _ _ (p1 .0);
+        long = ltb-false _ _ (p .0);
         output = p2 .0;
         inputs = p3 .0;
         count = not-false _ (p4 .0);
@@ -68,9 +69,10 @@ module _ (s : List ℕ) where
       cond-each few (tooShort s) (lit≤ tt)
       (cond-each few (badOutput (sizesOf s)) (lit≤ tt)
       (cond-each few (badInputs (sizesOf s)) (lit≤ tt)
+      (cond-each few (shortOfHead s) (lit≤ tt)
       (cond-each few (badCount s) (lit≤ tt)
       (cond-each few (badWidths (sizesOf s)) (lit≤ tt)
-      (cond-each few (badLength s) (lit≤ tt) (lit≤ tt))))))
+      (cond-each few (badLength s) (lit≤ tt) (lit≤ tt)))))))
 
   step-least : (k : ℕ) → (stepFault s k ≡ 0 → ⊥) → 7 ≤ stepFault s k
   unfolding stepFault

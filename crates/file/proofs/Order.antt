@@ -11,7 +11,7 @@ use Rattle.sizes.proofs.Ruled.{range-within, output-within, inputs-within, rule
 use Rattle.fields.specs.File.{stepCount}
 use Rattle.file.specs.Check.{maxSteps, stepFault, faultyAt, faultyStep, headFault, refusalOf}
 use Rattle.file.specs.Order.{CountRuled, HeadRuled, UpTo, shown, FileInOrder}
-use Rattle.file.proofs.Cases.{head-0, head-1, head-2, head-3, head-4, head-5, head-6, step-7, step-8, faulty}
+use Rattle.file.proofs.Cases.{head-0, head-1, head-2, head-3, own-head-1, head-4, head-5, head-6, step-7, step-8, faulty}
 use Rattle.file.proofs.Number.{refused-head, refused-faulty}
 use Rattle.file.proofs.Steps.{operation-kept, operation-passes, argument-kept, step-passes}
 
@@ -42,6 +42,7 @@ fileInOrder w s =
       output = λ l n. sym (refused-head s w (head-2 s l (not-eq-not .0 (λ o. n (output-range _ o)))) (λ e. omega arith));
       inputs = λ l o n.
           sym (refused-head s w (head-3 s l (output-within _ o) (not-eq-not .0 (λ i. n (inputs-range _ i)))) (λ e. omega arith));
+      head = λ l o i h. sym (refused-head s w (own-head-1 s l (output-within _ o) (inputs-within _ i) h) (λ e. omega arith));
       count = λ l o i n.
           sym
           (refused-head s w

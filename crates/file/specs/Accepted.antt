@@ -16,7 +16,7 @@ use Rattle.sizes.specs.declared.Sizes.{Sizes}
 use Rattle.datapath.specs.declared.Step.{Step}
 use Rattle.datapath.specs.declared.Step.the-variants.{Input, Constant, Add, Subtract, Multiply}
 use Rattle.file.specs.Check.{maxSteps, fileNumber}
-use Rattle.fields.specs.File.{headLength, sizesOf, stepCount, operation, argument, leftOperand, rightOperand}
+use Rattle.fields.specs.File.{sizesOf, headOf, stepCount, operation, argument, leftOperand, rightOperand}
 
 abbrev pub OperationRuled : List ℕ → ℕ → Type 0
 OperationRuled s k = (1 ≤ operation s k) × (operation s k ≤ 5)
@@ -29,8 +29,8 @@ pub record ArgumentRuled (s : List ℕ) (k : ℕ) : Type 0 where
   pub upper : 3 ≤ operation s k → argument s k < 2 ^ 32
 
 pub record Accepted (s : List ℕ) : Type 0 where
-  pub long : headLength ≤ length s
-  pub size : length s ≡ headLength + 9 * stepCount s
+  pub long : headOf s ≤ length s
+  pub size : length s ≡ headOf s + 9 * stepCount s
   pub outputLow : 1 ≤ sizesOf s .m
   pub outputHigh : sizesOf s .m ≤ 64
   pub inputsLow : 1 ≤ sizesOf s .d

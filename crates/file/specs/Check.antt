@@ -1,9 +1,10 @@
 -- The conditions that a file meets, each under document 01's number ('Refused because of the input'), and what checking a file answers.
 --   maxSteps          the largest N
---   tooShort          1. the file is shorter than a head
+--   tooShort          1. the file is shorter than a short head
+--   shortOfHead       1, once d is known. the file is shorter than its own head
 --   badOutput, badInputs, badWidths of its sizes   2, 3, 5
 --   badCount          4. N is not 1 to maxSteps
---   badLength         6. the length is not headLength + 9N
+--   badLength         6. the length is not that of the head and 9N
 --   badOperation      7. the operation byte of step k is not 1 to 5
 --   badArgument       8. the argument of step k breaks its rule
 --   stepFault s k     7 or 8, the first that holds at step k, or 0
@@ -21,19 +22,22 @@ use Rattle.ranges.specs.Search.{first}
 use Rattle.sizes.specs.declared.Refusal.{Refusal}
 use Rattle.sizes.specs.declared.Sizes.{Sizes}
 use Rattle.sizes.specs.Sizes.{within, badOutput, badInputs, badWidths}
-use Rattle.fields.specs.File.{headLength, sizesOf, stepCount, operation, argument, leftOperand, rightOperand, operationsOf}
+use Rattle.fields.specs.File.{shortHead, sizesOf, headOf, stepCount, operation, argument, leftOperand, rightOperand, operationsOf}
 
 abbrev pub maxSteps : ℕ
 maxSteps = 1024
 
 unfoldable pub tooShort : List ℕ → Bool
-tooShort s = ltb (length s) headLength
+tooShort s = ltb (length s) shortHead
+
+unfoldable pub shortOfHead : List ℕ → Bool
+shortOfHead s = ltb (length s) (headOf s)
 
 unfoldable pub badCount : List ℕ → Bool
 badCount s = not (within 1 maxSteps (stepCount s))
 
 unfoldable pub badLength : List ℕ → Bool
-badLength s = not (eqb (length s) (headLength + 9 * stepCount s))
+badLength s = not (eqb (length s) (headOf s + 9 * stepCount s))
 
 unfoldable pub badOperation : List ℕ → ℕ → Bool
 badOperation s k = not (within 1 5 (operation s k))
@@ -71,9 +75,10 @@ headFault s =
     cond (tooShort s) 1
     (cond (badOutput (sizesOf s)) 2
     (cond (badInputs (sizesOf s)) 3
+    (cond (shortOfHead s) 1
     (cond (badCount s) 4
     (cond (badWidths (sizesOf s)) 5
-    (cond (badLength s) 6 0)))))
+    (cond (badLength s) 6 0))))))
 
 unfoldable pub fileNumber : List ℕ → ℕ
 fileNumber s =

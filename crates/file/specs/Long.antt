@@ -7,10 +7,10 @@ use mathlib.Core.List.{List, _++_}
 use Prim.Native.Nat.{ℕ, _+_, _*_, _<_}
 use lib.ListN.{length}
 use Rattle.file.specs.Check.{maxSteps, fileNumber, refusalOf}
-use Rattle.fields.specs.File.{headLength}
+use Rattle.fields.specs.File.{longHead}
 
 abbrev pub longestFile : ℕ
-longestFile = headLength + 9 * maxSteps
+longestFile = longHead + 9 * maxSteps
 
 -- a file that starts so is judged by its start, and refused
 pub record CutShort (start rest : List ℕ) : Type 0 where

@@ -5,9 +5,9 @@ use mathlib.Core.List.{List}
 use mathlib.Core.Path.{_≡_}
 use Prim.Native.Nat.{ℕ, _+_}
 use denote.Ref.{RefT, ptr, now}
-use Rattle.fields.specs.File.{headLength}
+use Rattle.fields.specs.File.{headOf}
 use Rattle.file.specs.Check.{fileNumber, stretchOf}
 
 pub record Stretch (file r : RefT (List ℕ)) : Type 0 where
   pub contents : now r ≡ stretchOf (now file)
-  pub address : fileNumber (now file) ≡ 0 → ptr r ≡ (ptr file .0, headLength + ptr file .1)
+  pub address : fileNumber (now file) ≡ 0 → ptr r ≡ (ptr file .0, headOf (now file) + ptr file .1)

@@ -1,16 +1,19 @@
 // What a datapath file breaks: conditions 1 to 6 on the head and the length, then 7 and 8 on each step.
-use fields::HEAD;
+use fields::SHORT_HEAD;
 use fields::STEPS;
 use fields::argument;
+use fields::head_length;
+use fields::input_count;
 use fields::left_operand;
 use fields::operation;
+use fields::output_length;
 use fields::read_sizes;
 use fields::right_operand;
 use fields::step_count;
 use sizes::Sizes;
-use sizes::bad_inputs;
-use sizes::bad_output;
 use sizes::bad_widths;
+use sizes::is_input_count;
+use sizes::is_output_length;
 use sizes::within;
 use words::cut;
 ghost use mathlib.Core.Path.{_≡_};
@@ -18,28 +21,32 @@ ghost use Prim.Native.Nat.{_<_};
 ghost use Rattle.file.specs.Check.{headFault, operandsRule, argumentRule, stepFault, faultyStep};
 ghost use Rattle.file.specs.Headed.{Headed};
 
-// The first of conditions 1 to 6 that holds, or 0.
+// The first of conditions 1 to 6 that holds, or 0. Condition 1 is judged twice: before 2 of a short head, and after 3 of
+// the head that d asks for.
 pub fn head_fault(file: &[u8]) -> u64
     ensures { λ r. ⌜ r ≡ headFault (now (file .entry)) ⌝ }
 {
-    if file.len() < HEAD {
+    if file.len() < SHORT_HEAD {
         return 1;
     }
-    let z = read_sizes(file);
-    if bad_output(z) {
+    if !is_output_length(output_length(file)) {
         return 2;
     }
-    if bad_inputs(z) {
+    if !is_input_count(input_count(file)) {
         return 3;
+    }
+    let head = head_length(file);
+    if file.len() < head {
+        return 1;
     }
     let n = step_count(file);
     if !within(1, STEPS as u64, n as u64) {
         return 4;
     }
-    if bad_widths(z) {
+    if bad_widths(read_sizes(file)) {
         return 5;
     }
-    if file.len() != HEAD + 9 * n {
+    if file.len() != head + 9 * n {
         return 6;
     }
     0
@@ -75,7 +82,8 @@ fn argument_rule(z: Sizes, k: usize, o: u8, a: u64) -> bool
     operands_rule(k, a)
 }
 
-// Condition 7 or 8, the first that holds at step k, or 0. The sizes and N are the file's, and its length is HEAD + 9N.
+// Condition 7 or 8, the first that holds at step k, or 0. The sizes and N are the file's, and its length is that of
+// its head and 9N.
 pub fn step_fault(file: &[u8], z: Sizes, n: usize, k: usize) -> u64
     requires { ⌜ Headed (now file) z n × (k < n) ⌝ }
     ensures { λ r. ⌜ r ≡ stepFault (now (file .entry)) k ⌝ }

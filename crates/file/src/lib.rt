@@ -2,7 +2,7 @@
 use crate::faults::faulty_step;
 use crate::faults::head_fault;
 use crate::faults::step_fault;
-use fields::HEAD;
+use fields::head_length;
 use fields::read_sizes;
 use fields::step_count;
 use sizes::Refusal;
@@ -60,6 +60,7 @@ pub fn operations(file: &[u8]) -> &[u8]
         return &file[0..0];
     }
     let n = step_count(file);
-    let end = HEAD + n;
-    &file[HEAD..end]
+    let head = head_length(file);
+    let end = head + n;
+    &file[head..end]
 }

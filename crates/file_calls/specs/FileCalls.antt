@@ -20,7 +20,7 @@ use lib.ListN.{length}
 use Rattle.evaluate.specs.Evaluate.{evaluatedAt, evaluatedScratch}
 use Rattle.evaluate.specs.declared.Evaluated.{Evaluated}
 use Rattle.file.specs.Check.{fileNumber, refusalOf}
-use Rattle.fields.specs.File.{headLength, stepCount}
+use Rattle.fields.specs.File.{headOf, stepCount}
 use Rattle.layouts.specs.AnswerWords.{refusalWords}
 use Rattle.layouts.specs.Layout.{has, returned, leaves}
 use Rattle.layouts.specs.Lengths.{refusalLength}
@@ -33,7 +33,7 @@ abbrev pub operationsLength : ℕ
 operationsLength = 2
 
 unfoldable pub operationWords : List ℕ → List ℕ
-operationWords s = cond (eqb (fileNumber s) 0) (headLength ∷ stepCount s ∷ []) (0 ∷ 0 ∷ [])
+operationWords s = cond (eqb (fileNumber s) 0) (headOf s ∷ stepCount s ∷ []) (0 ∷ 0 ∷ [])
 
 pub record OperationsCall (f o : List ℕ) (r : ℕ) (o′ : List ℕ) : Type 0 where
   pub result : r ≡ returned (has operationsLength o)

@@ -7,7 +7,7 @@ use Prim.Native.Nat.{ℕ, _^_, _<_}
 use native.Mathlib.Nat.{mod-eq-of-lt}
 use native.Mathlib.Omega.{arith}
 use lib.IntN.{ℤ, negsuc}
-use lib.ListN.{length, take, drop, length-take, length-drop}
+use lib.ListN.{length, take, drop}
 use lib.Pow.{pow-pos}
 use lib.Seq.{take-all}
 use Rattle.file.proofs.Sound.{file-sound}
@@ -17,6 +17,7 @@ use Rattle.lists.proofs.Tabulate.{length-tabulate}
 use Rattle.differences.proofs.Neighbours.{mixed-remainder}
 use Rattle.differences.proofs.Tables.{difference-mixed, sumOfTable}
 use Rattle.evaluate.specs.Evaluate.{outputOf}
+use Rattle.fields.proofs.Heads.{length-widths}
 use Rattle.fields.specs.File.{sizesOf}
 use Rattle.fields.specs.Steps.{stepsOf}
 use Rattle.grid.specs.Grid.{axesOf, gridSize}
@@ -68,8 +69,7 @@ module _ (s : List ℕ) where
 -- the sizes and the grid of an accepted file, as the code has them, where both slices have room
 module _ {s : List ℕ} {n : ℕ} {z : Sizes} {g : Grid} {scratch table : List ℕ} (k : TableFilling s n z g scratch table) where
   sizes-full : length (z .widths) ≡ maxInputs
-  unfolding sizesOf
-  sizes-full = rw (k .sizes, length-take, length-drop) (omega (arith, k .sound .long))
+  sizes-full = rw (k .sizes) (length-widths s)
 
   sizes-sound : Sound z
   unfolding sizesOf

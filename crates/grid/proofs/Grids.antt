@@ -3,7 +3,7 @@ use mathlib.Core.Path.{_≡_, _∙_, ap}
 use Prim.Native.Nat.{_^_, _≤_, _<_}
 use native.Mathlib.Nat.{le-trans, pow-le-pow-right}
 use native.Mathlib.Omega.{arith}
-use lib.Dec.{lit<}
+use lib.Dec.{lit<, lit≤}
 use lib.ListN.{length, take, length-map, length-take}
 use lib.Seq.{take-at, length-take-le}
 use Rattle.bound.specs.Bound.{maxBound}
@@ -14,16 +14,19 @@ use Rattle.grid.specs.Grid.{axesOf, gridSize, gridOf, widthsOf, GridFits
 use Rattle.grid.specs.declared.Grid.{Grid}
 use Rattle.grid.proofs.Axes.{size-least, size-most, size-fits}
 
+-- there is an axis for each input
+pub length-axes : (z : Sizes) → length (z .widths) ≡ maxInputs → z .d ≤ maxInputs → length (axesOf z) ≡ z .d
+unfolding axesOf
+length-axes z w h = rw length-map (length-take-le (z .d) (z .widths) (omega arith))
+
 module _ (z : Sizes) (g : Grid) (e : g ≡ gridOf z) where
   pub grid-size : g .size ≡ gridSize z
   unfolding gridOf
   grid-size = ap (λ (g : Grid). g .size) e
 
   pub grid-axes : length (z .widths) ≡ maxInputs → z .d ≤ maxInputs → take (z .d) (g .axes) ≡ axesOf z
-  unfolding gridOf axesOf
-  grid-axes w h =
-      ap (λ (g : Grid). take (z .d) (g .axes)) e
-      ∙ take-at (axesOf z) _ (z .d) (rw length-map (length-take-le (z .d) (z .widths) (omega arith)))
+  unfolding gridOf
+  grid-axes w h = ap (λ (g : Grid). take (z .d) (g .axes)) e ∙ take-at (axesOf z) _ (z .d) (length-axes z w h)
 
 pub length-axes-most : (z : Sizes) → length (axesOf z) ≤ z .d
 unfolding axesOf
@@ -50,4 +53,6 @@ gridFits =
       least = λ z r. grid-least z (ruled-sound z r);
       most = λ z r. grid-most z (ruled-sound z r);
       fits = λ z r. grid-fits z (ruled-sound z r);
+      widest = lit< tt;
+      no-wider = lit≤ tt;
     }

@@ -7,13 +7,13 @@ use lib.ListN.{length, take, drop, set, length-drop, drop-of-length-le}
 use lib.Seq.{take-all}
 use Rattle.grid.specs.declared.Grid.{Grid}
 use Rattle.layouts.specs.AnswerWords.{refusalWords}
-use Rattle.layouts.specs.Lengths.{refusalLength}
+use Rattle.layouts.specs.Lengths.{refusalLength, gridLength}
 use Rattle.layouts.proofs.Written.{part-whole, part-back}
 use Rattle.lists.proofs.Lists.{set-front}
 use Rattle.sizes.specs.Sizes.{maxInputs}
 use Rattle.sizes.specs.declared.Refusal.{Refusal}
 use Rattle.slices.specs.Slices.{cleared, overwritten}
-use Rattle.grid_calls.specs.GridCalls.{gridLength, gridAsWords, noGrid}
+use Rattle.grid_calls.specs.GridCalls.{gridAsWords, noGrid}
 
 module _ (r : Refusal) (entry out : List ℕ) (l : length entry ≡ gridLength) (p : out ≡ overwritten refusalLength (refusalWords r) entry) where
   abbrev rest : List ℕ

@@ -4,7 +4,7 @@
 --   GridCall      grid_call
 --   boundWords m  the refusal (2: m is not 1 to 64), L(m), and L(m) divided by 2, 4, 8, 16, 32 and 64; all 0 in a refusal
 --   gridWords s   the file's refusal, the axes (0 past d), and G; all 0 in a refusal
---   boundLength, gridLength   how many words these have
+--   boundLength   how many words those of a bound are
 -- The fields of the records:
 --   result    1 where the answer slice has the answer's length, else 0
 --   out       the answer slice gets the answer's words
@@ -23,7 +23,7 @@ use Rattle.grid.specs.Grid.{gridOf}
 use Rattle.grid.specs.declared.Grid.{Grid}
 use Rattle.layouts.specs.AnswerWords.{refusalWords}
 use Rattle.layouts.specs.Layout.{has, returned, leaves}
-use Rattle.layouts.specs.Lengths.{refusalLength}
+use Rattle.layouts.specs.Lengths.{refusalLength, gridLength}
 use Rattle.sizes.specs.Sizes.{maxInputs, accepted}
 
 abbrev pub boundLength : ℕ
@@ -39,9 +39,6 @@ boundWords m = figureWords (figuresOf m)
 pub record BoundCall (m : ℕ) (o : List ℕ) (r : ℕ) (o′ : List ℕ) : Type 0 where
   pub result : r ≡ returned (has boundLength o)
   pub out : o′ ≡ leaves (has boundLength o) (boundWords m) o
-
-abbrev pub gridLength : ℕ
-gridLength = refusalLength + maxInputs + 1
 
 -- the words of a grid: its axes, and its size
 abbrev pub gridAsWords : Grid → List ℕ

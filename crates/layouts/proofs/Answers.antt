@@ -22,7 +22,7 @@ use Rattle.sessions.specs.declared.Session.{Session}
 use Rattle.sessions.proofs.Cases.{passed, progress-each}
 use Rattle.sessions.proofs.Pair.{comparable}
 use Rattle.sizes.specs.Sizes.{maxInputs, isRefusal}
-use Rattle.vectors.proofs.Padded.{length-padded}
+use Rattle.sizes.proofs.Padded.{length-padded}
 use Rattle.layouts.specs.AnswerWords.{kindWord, kindFrom, answerWords, answerFrom}
 use Rattle.layouts.specs.Lengths.{wordAt, atKind, answerLength}
 use Rattle.layouts.specs.Statement.{WholeVector, AnswersAsWords}

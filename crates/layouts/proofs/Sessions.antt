@@ -9,7 +9,8 @@ use native.Mathlib.Decide.{decLt}
 use native.Mathlib.Omega.{arith}
 use lib.ListN.{length, getD, take, length-append, length-take, length-drop, length-replicate, getD-replicate, List·getD-append}
 use Rattle.file.specs.Accepted.{Accepted}
-use Rattle.fields.specs.File.{headLength, sizesOf}
+use Rattle.fields.specs.File.{sizesOf}
+use Rattle.fields.proofs.Heads.{length-widths}
 use Rattle.ranges.proofs.Search.{true-or-false}
 use Rattle.sessions.specs.Session.{pairRefusal, noSession, opened, continueRefusal, progress, advanced, continued}
 use Rattle.sessions.specs.declared.Mark.{Mark}
@@ -101,18 +102,13 @@ module _ (σ : Session) (b : ByteSizes (σ .sizes)) where
         mark = (ap markFrom (last maxInputs n p k (b .count)) ∙ mark-decoded (σ .mark)) i;
       }
 
--- a head has all the word lengths
-pub file-widths : (s : List ℕ) → headLength ≤ length s → length (sizesOf s .widths) ≡ maxInputs
-unfolding sizesOf
-file-widths s l = rw (length-take, length-drop) (omega arith)
-
 -- the sizes of an accepted file fit bytes
 pub file-bytes : (s : List ℕ) → Accepted s → ByteSizes (sizesOf s)
 file-bytes s a =
     record {
       output = omega (arith, a .outputHigh);
       inputs = omega (arith, a .inputsHigh);
-      count = file-widths s (a .long);
+      count = length-widths s;
       width = λ i l.
           elim (decLt i (sizesOf s .d)) [
             | yes u ↦ omega (arith, a .widthHigh i u)

@@ -2,8 +2,9 @@
 --   sizes      m, d, n1 to the last word length
 --   session    the sizes, position, mark
 --   refusal    number (0: accepted), file, step
+--   grid       the refusal, u1 to the last axis, G
 --   answer     the refusal, kind, vectors run, x1 to the last input's value, output of file 1, output of file 2
--- There are maxInputs word lengths and as many values. `wordAt w i` is the word at offset i, and 0 past the end.
+-- There are maxInputs word lengths, and as many axes and values. `wordAt w i` is the word at offset i, and 0 past the end.
 use mathlib.Core.List.{List}
 use Prim.Native.Nat.{ℕ, _+_}
 use lib.ListN.{getD}
@@ -44,6 +45,15 @@ atStep = 2
 
 abbrev pub refusalLength : ℕ
 refusalLength = 3
+
+abbrev pub atAxes : ℕ
+atAxes = 3
+
+abbrev pub atGridSize : ℕ
+atGridSize = maxInputs + 3
+
+abbrev pub gridLength : ℕ
+gridLength = maxInputs + 4
 
 abbrev pub atKind : ℕ
 atKind = 3

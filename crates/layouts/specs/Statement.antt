@@ -34,7 +34,7 @@ use Rattle.sizes.specs.declared.Refusal.{Refusal}
 use Rattle.sizes.specs.declared.Sizes.{Sizes}
 use Rattle.layouts.specs.AnswerWords.{refusalWords, kindWord, answerWords, answerFits, answerFrom}
 use Rattle.layouts.specs.Lengths.{wordAt, atM, atD, atWidths, sizesLength, atPosition, atMark, sessionLength}
-use Rattle.layouts.specs.Lengths.{atNumber, atFile, atStep, refusalLength, atKind, atRun, atVector, atOutput₁, atOutput₂, answerLength}
+use Rattle.layouts.specs.Lengths.{atNumber, atFile, atStep, refusalLength, atAxes, atGridSize, gridLength, atKind, atRun, atVector, atOutput₁, atOutput₂, answerLength}
 use Rattle.layouts.specs.SessionWords.{markWord, sessionWords, sessionFits, sessionFrom}
 use Rattle.layouts.specs.SizeWords.{sizeWords, sizesFit, sizesFrom, ByteSizes}
 
@@ -67,58 +67,61 @@ pub record AnswersAsWords : Type 0 where
   pub continued : (f₁ f₂ : List ℕ) (σ : Session) (B len : ℕ) → WholeVector (continued f₁ f₂ σ B len .answer)
 
 pub record RefusalPlaces (r : Refusal) : Type 0 where
-  pub count : length (refusalWords r) ≡ 3
-  pub number : wordAt (refusalWords r) 0 ≡ r .number
-  pub file : wordAt (refusalWords r) 1 ≡ r .file
-  pub step : wordAt (refusalWords r) 2 ≡ r .step
+  pub count : length (refusalWords r) ≡ refusalLength
+  pub number : wordAt (refusalWords r) atNumber ≡ r .number
+  pub file : wordAt (refusalWords r) atFile ≡ r .file
+  pub step : wordAt (refusalWords r) atStep ≡ r .step
 
 -- the sizes have a word length for each input that a file may have
 abbrev pub WholeWidths : Sizes → Type 0
 WholeWidths z = length (z .widths) ≡ maxInputs
 
 pub record SizesPlaces (z : Sizes) : Type 0 where
-  pub count : length (sizeWords z) ≡ 10
-  pub m : wordAt (sizeWords z) 0 ≡ z .m
-  pub d : wordAt (sizeWords z) 1 ≡ z .d
-  pub widths : take maxInputs (drop 2 (sizeWords z)) ≡ z .widths
+  pub count : length (sizeWords z) ≡ sizesLength
+  pub m : wordAt (sizeWords z) atM ≡ z .m
+  pub d : wordAt (sizeWords z) atD ≡ z .d
+  pub widths : take maxInputs (drop atWidths (sizeWords z)) ≡ z .widths
 
 pub record SessionPlaces (σ : Session) : Type 0 where
-  pub count : length (sessionWords σ) ≡ 12
-  pub m : wordAt (sessionWords σ) 0 ≡ σ .sizes .m
-  pub d : wordAt (sessionWords σ) 1 ≡ σ .sizes .d
-  pub widths : take maxInputs (drop 2 (sessionWords σ)) ≡ σ .sizes .widths
-  pub position : wordAt (sessionWords σ) 10 ≡ σ .position
-  pub mark : wordAt (sessionWords σ) 11 ≡ markWord (σ .mark)
+  pub count : length (sessionWords σ) ≡ sessionLength
+  pub m : wordAt (sessionWords σ) atM ≡ σ .sizes .m
+  pub d : wordAt (sessionWords σ) atD ≡ σ .sizes .d
+  pub widths : take maxInputs (drop atWidths (sessionWords σ)) ≡ σ .sizes .widths
+  pub position : wordAt (sessionWords σ) atPosition ≡ σ .position
+  pub mark : wordAt (sessionWords σ) atMark ≡ markWord (σ .mark)
 
 pub record AnswerPlaces (a : Answer) : Type 0 where
-  pub count : length (answerWords a) ≡ 15
-  pub number : wordAt (answerWords a) 0 ≡ a .refusal .number
-  pub file : wordAt (answerWords a) 1 ≡ a .refusal .file
-  pub step : wordAt (answerWords a) 2 ≡ a .refusal .step
-  pub kind : wordAt (answerWords a) 3 ≡ kindWord (a .kind)
-  pub run : wordAt (answerWords a) 4 ≡ a .run
-  pub vector : take maxInputs (drop 5 (answerWords a)) ≡ a .vector
-  pub output₁ : wordAt (answerWords a) 13 ≡ a .output1
-  pub output₂ : wordAt (answerWords a) 14 ≡ a .output2
+  pub count : length (answerWords a) ≡ answerLength
+  pub number : wordAt (answerWords a) atNumber ≡ a .refusal .number
+  pub file : wordAt (answerWords a) atFile ≡ a .refusal .file
+  pub step : wordAt (answerWords a) atStep ≡ a .refusal .step
+  pub kind : wordAt (answerWords a) atKind ≡ kindWord (a .kind)
+  pub run : wordAt (answerWords a) atRun ≡ a .run
+  pub vector : take maxInputs (drop atVector (answerWords a)) ≡ a .vector
+  pub output₁ : wordAt (answerWords a) atOutput₁ ≡ a .output1
+  pub output₂ : wordAt (answerWords a) atOutput₂ ≡ a .output2
 
 pub record Offsets : Type 0 where
   pub m : atM ≡ 0
   pub d : atD ≡ 1
   pub widths : atWidths ≡ 2
-  pub sizesCount : sizesLength ≡ 10
-  pub position : atPosition ≡ 10
-  pub mark : atMark ≡ 11
-  pub sessionCount : sessionLength ≡ 12
+  pub sizesCount : sizesLength ≡ 12
+  pub position : atPosition ≡ 12
+  pub mark : atMark ≡ 13
+  pub sessionCount : sessionLength ≡ 14
   pub number : atNumber ≡ 0
   pub file : atFile ≡ 1
   pub step : atStep ≡ 2
   pub refusalCount : refusalLength ≡ 3
+  pub axes : atAxes ≡ 3
+  pub gridSize : atGridSize ≡ 13
+  pub gridCount : gridLength ≡ 14
   pub kind : atKind ≡ 3
   pub run : atRun ≡ 4
   pub vector : atVector ≡ 5
-  pub output₁ : atOutput₁ ≡ 13
-  pub output₂ : atOutput₂ ≡ 14
-  pub answerCount : answerLength ≡ 15
+  pub output₁ : atOutput₁ ≡ 15
+  pub output₂ : atOutput₂ ≡ 16
+  pub answerCount : answerLength ≡ 17
   pub refusal : (r : Refusal) → RefusalPlaces r
   pub sizes : (z : Sizes) → WholeWidths z → SizesPlaces z
   pub session : (σ : Session) → WholeWidths (σ .sizes) → SessionPlaces σ

@@ -24,8 +24,8 @@ use Rattle.rows.specs.Rows.{lane, Written}
 use Rattle.ranges.specs.Search.{first}
 use Rattle.ranges.proofs.Search.{first-most, first-before}
 use Rattle.sizes.specs.Sizes.{maxInputs}
-use Rattle.vectors.specs.Vectors.{padded}
-use Rattle.vectors.proofs.Padded.{padded-entry}
+use Rattle.sizes.specs.Padded.{padded}
+use Rattle.sizes.proofs.Padded.{padded-entry}
 use Rattle.line_outputs.specs.AlongLines.{Front, Last, Refreshed, AlongLine, FrontsKept}
 use Rattle.line_outputs.specs.declared.Along.{Along}
 

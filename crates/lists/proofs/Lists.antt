@@ -1,11 +1,11 @@
 -- Laws of lists: a map of an append and an entry of a map, entries one by one, and the write that extends a list kept in the front of
--- another. Each by recursion or by the laws of lib.Seq.
+-- another; equal entries. Each by recursion or by the laws of lib.Seq.
 use mathlib.Core.Path.{_≡_, refl, sym, _∙_, ap}
 use mathlib.Core.List.{List, [], _∷_, _++_, map}
 use Prim.Native.Nat.{ℕ, zero, suc, _+_, _-_, _<_, _≤_}
 use native.Mathlib.Numerals.{add-one}
 use native.Mathlib.Omega.{arith}
-use lib.ListN.{length, getD, take, drop, set}
+use lib.ListN.{length, getD, take, drop, set, replicate}
 use lib.Seq.{append-snoc, drop-cons, drop-drop, set-at, take-suc}
 
 pub map-append {ℓ κ} : {A : Type ℓ} {B : Type κ} (f : A → B) (xs ys : List A) → map f (xs ++ ys) ≡ map f xs ++ map f ys
@@ -44,3 +44,9 @@ pub drop-later : (xs ys : List ℕ) (n m : ℕ) → n ≤ m → drop n xs ≡ dr
 drop-later xs ys n m h e =
     let q : n + (m - n) ≡ m = omega arith in
     ap (λ k. drop k xs) (sym q) ∙ sym (drop-drop (m - n) n xs) ∙ ap (drop (m - n)) e ∙ drop-drop (m - n) n ys ∙ ap (λ k. drop k ys) q
+
+-- all but n of m equal entries
+pub drop-replicate : (n m a : ℕ) → drop n (replicate m a) ≡ replicate (m - n) a
+drop-replicate zero m a = let e : m ≡ m - 0 = omega arith in ap (λ k. replicate k a) e
+drop-replicate (suc n) zero a = let e : 0 ≡ 0 - suc n = omega arith in ap (λ k. replicate k a) e
+drop-replicate (suc n) (suc m) a = let e : m - n ≡ suc m - suc n = omega arith in drop-replicate n m a ∙ ap (λ k. replicate k a) e

@@ -12,8 +12,8 @@ use Rattle.bound.specs.Axes.{axis}
 use Rattle.bound.specs.Bound.{bound, log2, greedy}
 use Rattle.engine.specs.Engine.{outputsDiffer}
 use Rattle.evaluate.specs.Evaluate.{outputOf}
-use Rattle.file.specs.Check.{fileNumber, shownStep, refusalOf, tooShort, badCount, badLength, badOperation, operandsRule, argumentRule, badArgument, stepFault, faultyAt, faultyStep, headFault}
-use Rattle.fields.specs.File.{sizesOf, stepCount, operation, argument}
+use Rattle.file.specs.Check.{fileNumber, shownStep, refusalOf, tooShort, shortOfHead, badCount, badLength, badOperation, operandsRule, argumentRule, badArgument, stepFault, faultyAt, faultyStep, headFault}
+use Rattle.fields.specs.File.{widthBytes, sizesOf, stepCount, operation, argument}
 use Rattle.fields.specs.Steps.{decoded, stepAt, stepsFrom, stepsOf}
 use Rattle.grid.specs.Grid.{axesOf, gridSize}
 use Rattle.integers.specs.Modulo.{remainder}
@@ -72,9 +72,9 @@ unfolding found claimed
     written argumentBytes argumentOf operationByte bytes power joined constant x
     opened noSession pairRefusal sameSizes answers answerTo continued continueRefusal stateRefusal misplaced isClosed
     advanced progress refusedAnswer plainAnswer differsAnswer outputsDiffer outputOf vectorsRun stop firstPlace
-    refusalOf shownStep fileNumber headFault tooShort badOutput badInputs badCount badWidths widthRule badLength
+    refusalOf shownStep fileNumber headFault tooShort shortOfHead badOutput badInputs badCount badWidths widthRule badLength
     faultyStep faultyAt stepFault badOperation badArgument argumentRule operandsRule
-    sizesOf stepCount operation argument little stepsOf stepsFrom stepAt decoded
+    widthBytes sizesOf stepCount operation argument little stepsOf stepsFrom stepAt decoded
     axesOf gridSize axis bound log2 greedy size vectorAt
     every first firstDifference differsAt output exact values stepValue remainder
 all-found = refl
@@ -105,7 +105,7 @@ unfolding pairs pairAt
     three-factors-of-8-bits four-factors-of-8-bits square-of-a-bit two-inputs product
     first-quadratic second-quadratic quartic three-factors four-factors a·dp b·dp
     written argumentBytes argumentOf operationByte bytes power joined constant x
-    sizesOf stepCount operation argument little stepsOf stepsFrom stepAt decoded exact values stepValue
+    widthBytes sizesOf stepCount operation argument little stepsOf stepsFrom stepAt decoded exact values stepValue
 starredPairs =
     record {
       rows = refl;

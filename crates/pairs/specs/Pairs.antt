@@ -13,7 +13,7 @@ use Rattle.sessions.specs.Session.{plainAnswer}
 use Rattle.sessions.specs.declared.Answer.{Answer}
 use Rattle.sessions.specs.declared.Kind.the-variants.{Spent, Equivalent, Differs}
 use Rattle.sizes.specs.Sizes.{accepted}
-use Rattle.vectors.specs.Vectors.{padded}
+use Rattle.sizes.specs.Padded.{padded}
 use Rattle.pairs.specs.Written.{Expression, x, constant, _⊕_, _⊖_, _⊗_, _↑_, written}
 
 abbrev pub spent : ℕ → Answer

@@ -10,7 +10,7 @@
 use mathlib.Core.List.{List, [], _∷_, _++_, map}
 use Prim.Native.Nat.{ℕ, zero, suc, _+_, _-_, _*_, _/_, _%_, _^_}
 use lib.ListN.{length, replicate}
-use Rattle.sizes.specs.Sizes.{maxInputs}
+use Rattle.fields.specs.File.{widthBytes}
 use Rattle.datapath.specs.declared.Step.{Step}
 use Rattle.datapath.specs.declared.Step.the-variants.{Input, Constant, Add, Subtract, Multiply}
 
@@ -78,6 +78,6 @@ unfoldable pub written : ℕ → List ℕ → Expression → List ℕ
 written m ns e =
     let ts = e 0 in
     (m ∷ length ns ∷ bytes 2 (length ts))
-    ++ (ns ++ replicate (maxInputs - length ns) 0)
+    ++ (ns ++ replicate (widthBytes (length ns) - length ns) 0)
     ++ map operationByte ts
     ++ argumentBytes ts

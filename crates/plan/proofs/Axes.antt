@@ -3,25 +3,19 @@
 use mathlib.Core.List.{List}
 use mathlib.Core.Path.{_≡_}
 use Prim.Native.Nat.{ℕ, _^_, _≤_, _<_}
-use native.Mathlib.Omega.{arith}
-use lib.ListN.{length, getD, length-map, length-take, length-drop}
+use lib.ListN.{length, getD}
 use Rattle.bound.specs.Bound.{maxBound}
 use Rattle.fields.specs.File.{sizesOf}
+use Rattle.fields.proofs.Heads.{length-widths}
 use Rattle.file.specs.Accepted.{Accepted}
 use Rattle.file.proofs.Sound.{file-sound}
 use Rattle.grid.specs.Grid.{widthsOf, axesOf, gridSize}
 use Rattle.grid.proofs.Axes.{axes-most}
-use Rattle.grid.proofs.Grids.{grid-least, grid-fits}
-use Rattle.sizes.specs.Sizes.{maxInputs}
+use Rattle.grid.proofs.Grids.{length-axes, grid-least, grid-fits}
 
 module _ (s : List ℕ) (a : Accepted s) where
-  pub length-widths : length (sizesOf s .widths) ≡ maxInputs
-  unfolding sizesOf
-  length-widths = simp (length-take, length-drop) (omega (arith, a .long))
-
-  pub length-axes : length (axesOf (sizesOf s)) ≡ sizesOf s .d
-  unfolding axesOf
-  length-axes = simp (length-map, length-take) (omega (arith, length-widths, a .inputsHigh))
+  pub length-file-axes : length (axesOf (sizesOf s)) ≡ sizesOf s .d
+  length-file-axes = length-axes (sizesOf s) (length-widths s) (a .inputsHigh)
 
   pub file-axis-most : (i : ℕ) → getD (axesOf (sizesOf s)) i 0 ≤ maxBound
   unfolding axesOf

@@ -11,7 +11,8 @@ use Rattle.grid.proofs.Grids.{grid-axes}
 use Rattle.places.specs.Places.{size}
 use Rattle.plan.specs.Plan.{planOf, Planned}
 use Rattle.plan.specs.declared.Plan.{Plan}
-use Rattle.plan.proofs.Axes.{length-widths, length-axes, file-grid-fits}
+use Rattle.fields.proofs.Heads.{length-widths}
+use Rattle.plan.proofs.Axes.{length-file-axes, file-grid-fits}
 
 module _ {s₁ s₂ : List ℕ} {p : Plan} (k : Planned s₁ s₂ p) where
   pub count₁ : p .n1 ≡ stepCount s₁
@@ -36,11 +37,11 @@ module _ {s₁ s₂ : List ℕ} {p : Plan} (k : Planned s₁ s₂ p) where
 
   pub grid : take (p .d) (p .axes) ≡ axesOf (sizesOf s₁)
   unfolding planOf
-  grid = rw (k .plan) (grid-axes (sizesOf s₁) (gridOf (sizesOf s₁)) refl (length-widths s₁ (k .files .sound₁)) (k .files .sound₁ .inputsHigh))
+  grid = rw (k .plan) (grid-axes (sizesOf s₁) (gridOf (sizesOf s₁)) refl (length-widths s₁) (k .files .sound₁ .inputsHigh))
 
   pub enough : p .d ≤ length (p .axes)
   enough =
-      let e : length (take (p .d) (p .axes)) ≡ p .d = ap length grid ∙ length-axes s₁ (k .files .sound₁) ∙ sym inputs in
+      let e : length (take (p .d) (p .axes)) ≡ p .d = ap length grid ∙ length-file-axes s₁ (k .files .sound₁) ∙ sym inputs in
       rw (← e) (rw length-take (min-le-right (p .d) (length (p .axes))))
 
   pub places-fit : size (take (p .d) (p .axes)) < 2 ^ 64

@@ -1,16 +1,15 @@
--- The text of an answer is never longer than textRoom: a number below 2^64 has at most 20 digits, so that with its space it takes 21 bytes,
--- and there are at most maxInputs axes, as many entries, and five numbers more. Assumes nothing.
+-- The text of an answer is never longer than textRoom: an axis has at most two digits, and any other number, below 2^64, at most 20; each has a
+-- space. There are at most maxInputs axes, as many entries, and five numbers more. Assumes nothing.
 use mathlib.Core.Path.{_≡_, refl, ap}
 use mathlib.Core.List.{List, [], _∷_}
 use Prim.Native.Nat.{ℕ, zero, suc, _*_, _/_, _^_, _≤_, _<_}
-use native.Mathlib.Nat.{le-trans, mul-comm, pow-succ', div-lt-iff-lt-mul}
+use native.Mathlib.Nat.{le-trans, mul-comm, suc-mul, pow-succ', div-lt-iff-lt-mul}
 use native.Mathlib.Decide.{decLt}
 use native.Mathlib.Omega.{arith}
 use lib.Dec.{lit≤, lit<}
 use lib.ListN.{length, getD, take, length-append, length-take}
-use Rattle.bound.specs.Axes.{axes}
-use Rattle.plan.proofs.Axes.{length-axes}
-use Rattle.plan.proofs.Axes.{file-grid-fits}
+use Rattle.bound.specs.Axes.{axis, axes}
+use Rattle.plan.proofs.Axes.{length-file-axes, file-grid-fits}
 use Rattle.file.specs.Accepted.{Accepted}
 use Rattle.fields.specs.File.{sizesOf}
 use Rattle.grid.specs.Grid.{widthsOf, axesOf, gridSize}
@@ -39,38 +38,33 @@ digits-most (suc k) n h =
           omega (arith, length-decimal n (omega arith), digits-most k (n / 10) q)
     ]
 
--- a space and a number
-abbrev perNumber : ℕ
-perNumber = 21
-
 decimal-most : (n : ℕ) → n < 2 ^ 64 → length (decimal n) ≤ 20
 decimal-most n h = digits-most 19 n (le-trans h (lit≤ tt))
 
--- each of the numbers is a word
-abbrev AllWords : List ℕ → Type 0
-AllWords [] = Unit {0}
-AllWords (n ∷ ns) = (n < 2 ^ 64) × AllWords ns
+-- each of the numbers has at most c digits
+abbrev Digits : ℕ → List ℕ → Type 0
+Digits c [] = Unit {0}
+Digits c (n ∷ ns) = (length (decimal n) ≤ c) × Digits c ns
 
-spaced-most : (ns : List ℕ) → AllWords ns → length (spaced ns) ≤ perNumber * length ns
+spaced-most : (c : ℕ) (ns : List ℕ) → Digits c ns → length (spaced ns) ≤ length ns * suc c
 unfolding spaced
-spaced-most [] h = omega arith
-spaced-most (n ∷ ns) h =
-    omega (arith, length-append (decimal n) (spaced ns), decimal-most n (h .0), spaced-most ns (h .1))
+spaced-most c [] h = omega arith
+spaced-most c (n ∷ ns) h =
+    rw (suc-mul (length ns) (suc c)) (omega (arith, length-append (decimal n) (spaced ns), h .0, spaced-most c ns (h .1)))
 
-entry-words : (ns : List ℕ) → ((i : ℕ) → getD ns i 0 < 2 ^ 64) → AllWords ns
-entry-words [] h = tt
-entry-words (n ∷ ns) h = (h 0, entry-words ns (λ i. h (suc i)))
+entry-digits : (ns : List ℕ) → ((i : ℕ) → getD ns i 0 < 2 ^ 64) → Digits 20 ns
+entry-digits [] h = tt
+entry-digits (n ∷ ns) h = (decimal-most n (h 0), entry-digits ns (λ i. h (suc i)))
 
-take-words : (d : ℕ) (ns : List ℕ) → AllWords ns → AllWords (take d ns)
-take-words zero ns h = tt
-take-words (suc d) [] h = tt
-take-words (suc d) (n ∷ ns) h = (h .0, take-words d ns (h .1))
+take-digits : (c d : ℕ) (ns : List ℕ) → Digits c ns → Digits c (take d ns)
+take-digits c zero ns h = tt
+take-digits c (suc d) [] h = tt
+take-digits c (suc d) (n ∷ ns) h = (h .0, take-digits c d ns (h .1))
 
-axes-words : (m : ℕ) → 1 ≤ m → m ≤ 64 → (ns : List ℕ) → AllWords (axes m ns)
-axes-words m low high [] = tt
-axes-words m low high (n ∷ ns) =
-    let small : 67 ≤ 2 ^ 64 = lit≤ tt in
-    (le-trans (omega (arith, axis-most m low high n)) small, axes-words m low high ns)
+axes-digits : (m : ℕ) → 1 ≤ m → m ≤ 64 → (ns : List ℕ) → Digits 2 (axes m ns)
+axes-digits m low high [] = tt
+axes-digits m low high (n ∷ ns) =
+    (digits-most 1 (axis m n) (omega (arith, axis-most m low high n)), axes-digits m low high ns)
 
 -- the lines
 module _ (a : Answer) (w : Words a) where
@@ -85,23 +79,23 @@ module _ (a : Answer) (w : Words a) where
         decimal-most (a .refusal .step) (w .step),
       ))
 
-  differ-most : (d : ℕ) → d ≤ maxInputs → length (differLine (take d (a .vector)) (a .output1) (a .output2)) ≤ 219
+  differ-most : (d : ℕ) → d ≤ maxInputs → length (differLine (take d (a .vector)) (a .output1) (a .output2)) ≤ 261
   unfolding differLine spaced
   differ-most d h =
       simp length-append
       (omega (
         arith,
-        spaced-most (take d (a .vector)) (take-words d (a .vector) (entry-words (a .vector) (w .entries))),
+        spaced-most 20 (take d (a .vector)) (take-digits 20 d (a .vector) (entry-digits (a .vector) (w .entries))),
         length-take d (a .vector),
         decimal-most (a .output1) (w .output₁),
         decimal-most (a .output2) (w .output₂),
       ))
 
-  equivalent-most : length equivalentLine ≤ 219
+  equivalent-most : length equivalentLine ≤ 261
   unfolding equivalentLine
   equivalent-most = omega arith
 
-  shown-most : (k : Kind) (d : ℕ) → d ≤ maxInputs → length (shownText k d a) ≤ 219
+  shown-most : (k : Kind) (d : ℕ) → d ≤ maxInputs → length (shownText k d a) ≤ 261
   unfolding shownText
   shown-most Refused d h = omega arith
   shown-most Spent d h = omega arith
@@ -112,14 +106,14 @@ run-most : (n : ℕ) → n < 2 ^ 64 → length (runLine n) ≤ 25
 unfolding runLine spaced
 run-most n h = simp length-append (omega (arith, decimal-most n h))
 
-grid-most : (s : List ℕ) → Accepted s → length (gridText s) ≤ 196
+grid-most : (s : List ℕ) → Accepted s → length (gridText s) ≤ 58
 unfolding gridText gridLine axesOf spaced
 grid-most s a =
     simp length-append
     (omega (
       arith,
-      spaced-most (axesOf (sizesOf s)) (axes-words (sizesOf s .m) (a .outputLow) (a .outputHigh) (widthsOf (sizesOf s))),
-      length-axes s a,
+      spaced-most 2 (axesOf (sizesOf s)) (axes-digits (sizesOf s .m) (a .outputLow) (a .outputHigh) (widthsOf (sizesOf s))),
+      length-file-axes s a,
       a .inputsHigh,
       decimal-most (gridSize (sizesOf s)) (file-grid-fits s a),
     ))

@@ -11,7 +11,7 @@ use native.Mathlib.Omega.{arith}
 use lib.ListN.{take}
 use lib.Seq.{take-at}
 use borrow.Author.Tests.{ne-eqb}
-use Rattle.plan.proofs.Axes.{length-axes}
+use Rattle.plan.proofs.Axes.{length-file-axes}
 use Rattle.fields.specs.File.{sizesOf}
 use Rattle.grid.specs.Grid.{axesOf, gridSize}
 use Rattle.places.proofs.LastAxis.{length-below}
@@ -27,7 +27,7 @@ use Rattle.sessions.proofs.Cases.{continued-refused}
 use Rattle.sessions.proofs.Demand3.{at-verdict}
 use Rattle.sessions.proofs.Step.{stop-differs}
 use Rattle.sizes.specs.Sizes.{isRefusal}
-use Rattle.vectors.specs.Vectors.{padded}
+use Rattle.sizes.specs.Padded.{padded}
 use Rattle.printed.specs.Claims.{ReportedInFull, RefusedReported}
 use Rattle.printed.specs.Report.{gridText, verdictText, printed, shownText, concluded, reportOf}
 use Rattle.printed.specs.Lines.{runLine}
@@ -49,7 +49,7 @@ module _ (f₁ f₂ : List ℕ) (o : opened f₁ f₂ .refusal .number ≡ 0) wh
       let us = axesOf (sizesOf f₁) in
       let inside : stop f₁ f₂ - 1 < G = omega (arith, stop-differs f₁ f₂ l) in
       take-at (stopVector f₁ f₂) _ (sizesOf f₁ .d)
-      (length-below us (stopVector f₁ f₂) (oneToOne us .below (stop f₁ f₂ - 1) inside) ∙ length-axes f₁ (first-accepted f₁ f₂ o))
+      (length-below us (stopVector f₁ f₂) (oneToOne us .below (stop f₁ f₂ - 1) inside) ∙ length-file-axes f₁ (first-accepted f₁ f₂ o))
 
   module _ (a : Answer) (right : Settled f₁ f₂ a) where
     shown-equivalent : a .kind ≡ Equivalent → shownText (a .kind) (sizesOf f₁ .d) a ≡ verdictText f₁ f₂

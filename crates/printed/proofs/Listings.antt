@@ -3,8 +3,8 @@ use mathlib.Core.Path.{refl}
 use Rattle.bound.specs.Axes.{axis}
 use Rattle.bound.specs.Bound.{bound, log2, greedy}
 use Rattle.evaluate.specs.Evaluate.{outputOf}
-use Rattle.file.specs.Check.{fileNumber, shownStep, refusalOf, tooShort, badCount, badLength, badOperation, operandsRule, argumentRule, badArgument, stepFault, faultyAt, faultyStep, headFault}
-use Rattle.fields.specs.File.{sizesOf, stepCount, operation, argument}
+use Rattle.file.specs.Check.{fileNumber, shownStep, refusalOf, tooShort, shortOfHead, badCount, badLength, badOperation, operandsRule, argumentRule, badArgument, stepFault, faultyAt, faultyStep, headFault}
+use Rattle.fields.specs.File.{widthBytes, sizesOf, stepCount, operation, argument}
 use Rattle.fields.specs.Steps.{decoded, stepAt, stepsFrom, stepsOf}
 use Rattle.grid.specs.Grid.{axesOf, gridSize}
 use Rattle.integers.specs.Modulo.{remainder}
@@ -27,9 +27,9 @@ computed : Listings × RefusedListings
 unfolding listingTable refusedTable a·dp b·dp
     printed gridText verdictText gridLine differLine equivalentLine runLine refusalLine spaced decimal digitsOf
     opened noSession pairRefusal sameSizes outputOf stop firstPlace
-    refusalOf shownStep fileNumber headFault tooShort badOutput badInputs badCount badWidths widthRule badLength
+    refusalOf shownStep fileNumber headFault tooShort shortOfHead badOutput badInputs badCount badWidths widthRule badLength
     faultyStep faultyAt stepFault badOperation badArgument argumentRule operandsRule
-    sizesOf stepCount operation argument little stepsOf stepsFrom stepAt decoded
+    widthBytes sizesOf stepCount operation argument little stepsOf stepsFrom stepAt decoded
     axesOf gridSize axis bound log2 greedy size vectorAt
     every first firstDifference differsAt output exact values stepValue remainder
 computed = (refl, refl)

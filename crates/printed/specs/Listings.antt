@@ -81,10 +81,14 @@ unfoldable pub refusedTable : List RefusedPair
 refusedTable =
     -- 1. no byte
     refused b·dp [] 1 2 0
-    -- 2. m is 0; 3. d is 9; and both
+    -- 2. m is 0; 3. d is 11; and both
     ∷ refused (set a·dp 0 0) b·dp 2 1 0
-    ∷ refused b·dp (set b·dp 1 9) 3 2 0
-    ∷ refused (set (set a·dp 0 0) 1 9) b·dp 2 1 0
+    ∷ refused b·dp (set b·dp 1 11) 3 2 0
+    ∷ refused (set (set a·dp 0 0) 1 11) b·dp 2 1 0
+    -- 1, of a head of 13 bytes where d is 9; and m is 0, and N is 0
+    ∷ refused b·dp (take 13 (set b·dp 1 9)) 1 2 0
+    ∷ refused (set (take 13 (set a·dp 1 9)) 0 0) b·dp 2 1 0
+    ∷ refused (set (take 13 (set a·dp 1 9)) 2 0) b·dp 1 1 0
     -- 4. N is 0; 5. n2 is 65, an unused byte is 1; and N is 0 and n2 is 65
     ∷ refused (set a·dp 2 0) b·dp 4 1 0
     ∷ refused (set a·dp 5 65) b·dp 5 1 0

@@ -9,14 +9,15 @@ use Rattle.fields.specs.File.{sizesOf}
 use Rattle.grid.specs.Grid.{axesOf, gridSize, gridOf}
 use Rattle.grid.specs.declared.Grid.{Grid}
 use Rattle.grid.proofs.Grids.{grid-axes}
-use Rattle.plan.proofs.Axes.{length-widths, length-axes}
+use Rattle.fields.proofs.Heads.{length-widths}
+use Rattle.plan.proofs.Axes.{length-file-axes}
 use Rattle.sizes.specs.declared.Sizes.{Sizes}
 use Rattle.printed.specs.Lines.{gridLine}
 use Rattle.printed.specs.Report.{gridText}
 
 module _ (s : List ℕ) (accepted : Accepted s) (z : Sizes) (g : Grid) (e : z ≡ sizesOf s) (q : g ≡ gridOf z) where
   axes-read : take (z .d) (g .axes) ≡ axesOf (sizesOf s)
-  axes-read = rw (q, e) (grid-axes (sizesOf s) (gridOf (sizesOf s)) refl (length-widths s accepted) (accepted .inputsHigh))
+  axes-read = rw (q, e) (grid-axes (sizesOf s) (gridOf (sizesOf s)) refl (length-widths s) (accepted .inputsHigh))
 
   size-read : g .size ≡ gridSize (sizesOf s)
   unfolding gridOf
@@ -28,4 +29,4 @@ module _ (s : List ℕ) (accepted : Accepted s) (z : Sizes) (g : Grid) (e : z �
 
   pub axes-long : z .d ≤ length (g .axes)
   axes-long =
-      omega (arith, length-take (z .d) (g .axes), ap length axes-read, length-axes s accepted, ap (λ (w : Sizes). w .d) e)
+      omega (arith, length-take (z .d) (g .axes), ap length axes-read, length-file-axes s accepted, ap (λ (w : Sizes). w .d) e)

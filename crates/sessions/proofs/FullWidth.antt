@@ -11,7 +11,7 @@ use Rattle.fields.specs.File.{sizesOf}
 use Rattle.file.specs.Accepted.{Accepted}
 use Rattle.grid.specs.Grid.{widthsOf}
 use Rattle.places.proofs.LastAxis.{length-below}
-use Rattle.plan.proofs.Axes.{length-widths}
+use Rattle.fields.proofs.Heads.{length-widths}
 use Rattle.vectors.proofs.Digits.{below-at, below-of}
 use Rattle.sessions.specs.Demand3.{FullWidth}
 use Rattle.sessions.specs.Taken.{FullWidthTaken}
@@ -26,7 +26,7 @@ module _ (s : List ℕ) (a : Accepted s) where
   ns = widthsOf (sizesOf s)
 
   count : length ns ≡ sizesOf s .d
-  count = rw length-take (omega (arith, length-widths s a, a .inputsHigh))
+  count = rw length-take (omega (arith, length-widths s, a .inputsHigh))
 
   count-ranges : length (ranges ns) ≡ sizesOf s .d
   count-ranges = rw length-map count

@@ -12,7 +12,7 @@ use Rattle.fields.specs.File.{sizesOf}
 use Rattle.file.proofs.Accepted.{accepted}
 use Rattle.file.proofs.Sound.{number-0}
 use Rattle.grid.specs.Grid.{gridSize}
-use Rattle.plan.proofs.Axes.{length-widths}
+use Rattle.fields.proofs.Heads.{length-widths}
 use Rattle.sizes.specs.Sizes.{maxInputs, refusedBy, isRefusal}
 use Rattle.sizes.specs.declared.Sizes.{Sizes}
 use Rattle.sizes.proofs.Ranges.{within-range}
@@ -37,7 +37,7 @@ openInOrder s₁ s₂ =
       file₁ = λ n. pair-first s₁ s₂ (λ e. n (accepted s₁ e));
       file₂ = λ a n. pair-second s₁ s₂ (number-0 s₁ a) (λ e. n (accepted s₂ e));
       sizes = λ a b n.
-          pair-9 s₁ s₂ (number-0 s₁ a) (number-0 s₂ b) (other-sizes _ _ (length-widths s₁ a) (length-widths s₂ b) n);
+          pair-9 s₁ s₂ (number-0 s₁ a) (number-0 s₂ b) (other-sizes _ _ (length-widths s₁) (length-widths s₂) n);
     }
 
 -- 102, mark by mark
@@ -108,7 +108,7 @@ continueInOrder s₁ s₂ σ B len long =
       budget = by-budget s₁ s₂ σ B len;
       files = by-files s₁ s₂ σ B len;
       room = by-room s₁ s₂ σ B len;
-      sizes = λ c n. by-sizes s₁ s₂ σ B len c (other-sizes _ _ long (length-widths s₁ (c .files .sound₁)) n);
+      sizes = λ c n. by-sizes s₁ s₂ σ B len c (other-sizes _ _ long (length-widths s₁) n);
       open-past = λ c z m l. by-position s₁ s₂ σ B len c z Open m (misplaced-open _ _ l);
       equal-elsewhere = λ c z m n. by-position s₁ s₂ σ B len c z Equal m (misplaced-equal _ _ n);
       differ-outside = λ c z m n. by-position s₁ s₂ σ B len c z Differ m (misplaced-differ _ _ n);

@@ -15,7 +15,7 @@ use Rattle.fields.specs.File.{sizesOf}
 use Rattle.file.proofs.Accepted.{accepted}
 use Rattle.file.proofs.Number.{refusal-number}
 use Rattle.file.proofs.Sound.{number-0}
-use Rattle.plan.proofs.Axes.{length-widths}
+use Rattle.fields.proofs.Heads.{length-widths}
 use Rattle.ranges.proofs.Search.{every-at, every-of}
 use Rattle.sizes.specs.Sizes.{maxInputs, refusedBy, isRefusal}
 use Rattle.sizes.specs.declared.Refusal.{Refusal}
@@ -90,5 +90,5 @@ comparable s₁ s₂ pair =
     record {
       sound₁ = a₁;
       sound₂ = a₂;
-      same = same-equal (sizesOf s₁) (sizesOf s₂) (length-widths s₁ a₁) (length-widths s₂ a₂) (not-false _ (p₃ .0));
+      same = same-equal (sizesOf s₁) (sizesOf s₂) (length-widths s₁) (length-widths s₂) (not-false _ (p₃ .0));
     }

@@ -9,7 +9,7 @@ use lib.ListN.{length}
 use borrow.Author.Tests.{eq-eqb, ne-eqb, eqb-false}
 use Rattle.engine.specs.Engine.{Comparable}
 use Rattle.fields.specs.File.{sizesOf}
-use Rattle.plan.proofs.Axes.{length-widths}
+use Rattle.fields.proofs.Heads.{length-widths}
 use Rattle.sizes.specs.Sizes.{maxInputs, isRefusal}
 use Rattle.sizes.specs.declared.Refusal.{Refusal}
 use Rattle.sessions.specs.Session.{sameSizes, opened, isClosed, continued}
@@ -47,7 +47,7 @@ module _ (s₁ s₂ : List ℕ) (σ : Session) (B len : ℕ) where
       let some = eqb-false B 0 (p .budget) in
       record {
         call = record { budget = omega (arith, some); files = c; room = p .room };
-        sizes = same-equal (σ .sizes) (sizesOf s₁) long (length-widths s₁ (c .sound₁)) (p .same);
+        sizes = same-equal (σ .sizes) (sizesOf s₁) long (length-widths s₁) (p .same);
         mark = open-mark (σ .mark) (p .unclosed);
         position = p .inside;
       }

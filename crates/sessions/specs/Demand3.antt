@@ -30,7 +30,7 @@ use Rattle.grid.specs.Grid.{widthsOf, axesOf, gridSize}
 use Rattle.places.specs.Places.{Below, vectorAt}
 use Rattle.grid_theorem.specs.Comparison.{firstDifference, IsFirst}
 use Rattle.sessions.specs.Calls.{Call, answerTo, sessionAfter, answers, IsRefused, IsVerdict, budgets, vectorsRun, Each}
-use Rattle.vectors.specs.Vectors.{padded}
+use Rattle.sizes.specs.Padded.{padded}
 use Rattle.sessions.specs.Session.{opened}
 use Rattle.sessions.specs.declared.Answer.{Answer}
 use Rattle.sessions.specs.declared.Mark.{Mark}

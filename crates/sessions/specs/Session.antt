@@ -26,7 +26,7 @@ use Rattle.sizes.specs.Sizes.{maxInputs, within, refusedBy, accepted, isRefusal
 use Rattle.sizes.specs.declared.Refusal.{Refusal}
 use Rattle.sizes.specs.declared.Sizes.{Sizes}
 use Rattle.slices.specs.Slices.{cleared}
-use Rattle.vectors.specs.Vectors.{padded}
+use Rattle.sizes.specs.Padded.{padded}
 use Rattle.sessions.specs.declared.Answer.{Answer}
 use Rattle.sessions.specs.declared.Continued.{Continued}
 use Rattle.sessions.specs.declared.Mark.{Mark}

@@ -1,6 +1,7 @@
 -- Conditions on the sizes, each under document 01's number ('Refused because of the input').
 --   outputLength m   what 2 asks: m is 1 to 64
 --   badOutput    2. m is not 1 to 64
+--   inputCount d     what 3 asks: d is 1 to maxInputs
 --   badInputs    3. d is not 1 to maxInputs
 --   badWidths    5. a word-length byte breaks its rule: 1 to 64 for the first d, and 0 for the others
 --   refusedBy k  the refusal under the number k that shows no file and no step
@@ -8,7 +9,7 @@
 --   accepts r    the call that answers r is accepted
 --   isRefusal r  and that it is refused
 --   sizesRefusal z  what sizes given as numbers are refused by, or acceptance: 2, 3, 5
---   maxInputs    the largest count of inputs, which is also the count of word-length bytes
+--   maxInputs    the largest count of inputs, and so of word lengths
 --   OutputLength m  what 2 asks, with no test in it
 --   OutputRuled z   2 with no test in it: m is 1 to 64
 --   InputsRuled z   3 with no test in it: d is 1 to maxInputs
@@ -26,7 +27,7 @@ use Rattle.sizes.specs.declared.Refusal.{Refusal}
 use Rattle.sizes.specs.declared.Sizes.{Sizes}
 
 abbrev pub maxInputs : ℕ
-maxInputs = 8
+maxInputs = 10
 
 -- the number n is in the range from low to high, ends included
 abbrev pub within : ℕ → ℕ → ℕ → Bool
@@ -35,11 +36,14 @@ within low high n = leb low n && leb n high
 abbrev pub outputLength : ℕ → Bool
 outputLength m = within 1 64 m
 
+abbrev pub inputCount : ℕ → Bool
+inputCount d = within 1 maxInputs d
+
 unfoldable pub badOutput : Sizes → Bool
 badOutput z = not (outputLength (z .m))
 
 unfoldable pub badInputs : Sizes → Bool
-badInputs z = not (within 1 maxInputs (z .d))
+badInputs z = not (inputCount (z .d))
 
 -- word length i keeps its rule
 unfoldable pub widthRule : Sizes → ℕ → Bool

@@ -5,6 +5,7 @@ ghost use Rattle.sizes.specs.Sizes.{
   within,
   maxInputs,
   outputLength,
+  inputCount,
   badOutput,
   badInputs,
   badWidths,
@@ -13,10 +14,10 @@ ghost use Rattle.sizes.specs.Sizes.{
   sizesRefusal,
 };
 
-// The largest count of inputs, which is also the count of word-length bytes.
-pub const INPUTS: usize = 8;
+// The largest count of inputs.
+pub const INPUTS: usize = 10;
 
-// m, the output word length; d, the count of inputs; and the word lengths of the inputs.
+// m, the output word length; d, the count of inputs; and the word lengths of the inputs, with 0 past the last.
 pub struct Sizes {
     pub m: u8,
     pub d: u8,
@@ -66,12 +67,19 @@ pub fn bad_output(z: Sizes) -> bool
     !is_output_length(m)
 }
 
+// Whether d is what condition 3 asks for: 1 to INPUTS.
+pub fn is_input_count(d: u64) -> bool
+    ensures { λ r. ⌜ r ≡ inputCount d ⌝ }
+{
+    within(1, INPUTS as u64, d)
+}
+
 // Whether d breaks condition 3: it is not 1 to INPUTS.
 pub fn bad_inputs(z: Sizes) -> bool
     ensures { λ r. ⌜ r ≡ badInputs z ⌝ }
 {
     let d = z.d as u64;
-    !within(1, INPUTS as u64, d)
+    !is_input_count(d)
 }
 
 // Whether word length i keeps its rule: 1 to 64 for one of the first d, else 0.

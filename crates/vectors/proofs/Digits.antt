@@ -11,7 +11,7 @@ use Rattle.places.specs.Places.{Below, size, vectorAt, placeOf}
 use Rattle.places.proofs.LastAxis.{length-below}
 use Rattle.places.proofs.Places.{oneToOne}
 use Rattle.sizes.specs.Sizes.{maxInputs}
-use Rattle.vectors.specs.Vectors.{padded}
+use Rattle.sizes.specs.Padded.{padded}
 
 -- a value of a vector below the axes is below its axis
 pub below-at : (us x : List ℕ) (i : ℕ) → Below us x → i < length us → getD x i 0 < getD us i 0

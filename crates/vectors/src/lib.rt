@@ -5,7 +5,8 @@ ghost use Prim.Native.Nat.{_≤_, _<_};
 ghost use lib.ListN.{take};
 ghost use Rattle.places.specs.Places.{size, vectorAt};
 ghost use Rattle.sizes.specs.Sizes.{maxInputs};
-ghost use Rattle.vectors.specs.Vectors.{padded, Placed, Next};
+ghost use Rattle.sizes.specs.Padded.{padded};
+ghost use Rattle.vectors.specs.Vectors.{Placed, Next};
 
 // The vector at place p of the grid with the first d of the axes: the digits of p, the last input varying fastest.
 pub fn vector_at(axes: [u64; INPUTS], d: usize, p: u64) -> [u64; INPUTS]

@@ -13,8 +13,8 @@ use Rattle.fields.specs.File.{sizesOf}
 use Rattle.grid.specs.Grid.{axesOf}
 use Rattle.places.specs.Places.{vectorAt}
 use Rattle.plan.specs.Comparison.{outputsDiffer}
-use Rattle.vectors.specs.Vectors.{padded}
-use Rattle.vectors.proofs.Padded.{padded-entry}
+use Rattle.sizes.specs.Padded.{padded}
+use Rattle.sizes.proofs.Padded.{padded-entry}
 
 pub output-padded : (s v : List ℕ) → outputOf s (padded v) ≡ outputOf s v
 output-padded s v = output-entries s (padded v) v (padded-entry v)

@@ -14,7 +14,7 @@ use Rattle.places.specs.Places.{vectorAt}
 use Rattle.plan.proofs.Numbers as plan
 use Rattle.sessions.specs.Session.{differsAnswer}
 use Rattle.sessions.specs.declared.Kind.the-variants.{Differs}
-use Rattle.vectors.specs.Vectors.{padded}
+use Rattle.sizes.specs.Padded.{padded}
 use Rattle.walk.proofs.Outputs.{output-padded}
 use Rattle.advancing.proofs.differs_answer.Statement.{statement}
 use Rattle.advancing.proofs.differs_answer.Tie as tie

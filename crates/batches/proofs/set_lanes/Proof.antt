@@ -13,8 +13,8 @@ use lib.ListN.{length, getD, take}
 use Rattle.places.specs.Places.{vectorAt}
 use Rattle.rows.specs.Rows.{lane}
 use Rattle.sizes.specs.Sizes.{maxInputs}
-use Rattle.vectors.specs.Vectors.{padded}
-use Rattle.vectors.proofs.Padded.{padded-entry}
+use Rattle.sizes.specs.Padded.{padded}
+use Rattle.sizes.proofs.Padded.{padded-entry}
 use Rattle.batches.proofs.set_lanes.Statement.{statement}
 use Rattle.batches.proofs.set_lanes.Tie as tie
 

@@ -6,6 +6,7 @@ use Prim.Native.Nat.{_-_, _%_, _^_}
 use denote.Ref.{now}
 use lib.ListN.{getD, drop, length-map}
 use lib.Seq.{drop-at}
+use Rattle.fields.proofs.Heads.{head-short}
 use Rattle.fields.specs.Steps.{stepsOf}
 use Rattle.datapath.specs.Steps.{values}
 use Rattle.datapath.proofs.Values.{length-values}
@@ -19,7 +20,7 @@ run-requires : tie.Need-run-requires
 run-requires c κs = search needs
 
 output-length-requires : tie.Need-output-length-requires
-output-length-requires c κs = c .before .before .before .before .before .before .before .pre .sound .long
+output-length-requires c κs = head-short _ (c .before .before .before .before .before .before .before .pre .sound .long)
 
 sub-cut : tie.Need-sub-cut
 sub-cut c = search needs

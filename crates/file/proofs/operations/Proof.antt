@@ -1,13 +1,14 @@
--- `file::operations` meets its contract. The number that checking gave is the file's. At 0 the length is 12 + 9N, so the stretch lies in
+-- `file::operations` meets its contract. The number that checking gave is the file's. At 0 the length is that of the head and 9N, so the stretch lies in
 -- the file. Assumes nothing.
-use mathlib.Core.Path.{_≡_, refl, sym, ap, _∙_}
+use mathlib.Core.Path.{_≡_, sym, ap, ap₂, _∙_}
 use Prim.Native.Nat.{ℕ, _+_, _-_}
 use native.Mathlib.Omega.{arith}
 use lib.ListN.{take, drop}
 use borrow.Author.Needs.{needs}
-use denote.Ref.{now}
+use denote.Ref.{ptr, now}
 use Rattle.sizes.specs.declared.Refusal.{Refusal}
-use Rattle.fields.specs.File.{headLength, operationsOf}
+use Rattle.fields.specs.File.{operationsOf}
+use Rattle.fields.proofs.Heads.{head-most, head-short}
 use Rattle.file.specs.Check.{fileNumber}
 use Rattle.file.proofs.Number.{Head, head-passed, number-zero, refusal-number, stretch-accepted, stretch-refused}
 use Rattle.file.proofs.operations.Statement.{statement}
@@ -43,8 +44,11 @@ returns c = record { contents = sym (stretch-refused _ (refused (c .before))); a
 step-count-requires : tie.Need-step-count-requires
 step-count-requires c κs = passed c .long
 
+head-length-requires : tie.Need-head-length-requires
+head-length-requires c κs = head-short _ (passed (c .before) .long)
+
 add-end : tie.Need-add-end
-add-end c = search needs
+add-end c = omega (arith, c .head-length .ensures, head-most (now (c .before .before .before .before .before .args .file)), c .before .step-count .ensures)
 
 sub-result-2 : tie.Need-sub-result-2
 sub-result-2 c = search needs
@@ -53,18 +57,22 @@ part-result-start-2 : tie.Need-part-result-start-2
 part-result-start-2 c = search needs
 
 part-result-end-2 : tie.Need-part-result-end-2
-part-result-end-2 c = omega (arith, passed (c .before) .size, c .step-count .ensures)
+part-result-end-2 c = omega (arith, passed (c .before .before) .size, c .head-length .ensures, c .before .step-count .ensures)
 
 returns-2 : tie.Need-returns-2
 unfolding operationsOf
 returns-2 c =
-    let s = now (c .before .before .before .before .before .args .file) in
-    let count : headLength + c .before .step-count .result - headLength ≡ c .before .step-count .result = omega arith in
+    let file = c .before .before .before .before .before .before .args .file in
+    let s = now file in
+    let h = c .before .head-length .result in
+    let n = c .before .before .step-count .result in
+    let count : h + n - h ≡ n = omega arith in
+    let head = c .before .head-length .ensures in
     record {
       contents =
-          ap (λ (n : ℕ). take n (drop headLength s)) (count ∙ c .before .step-count .ensures .0)
-          ∙ sym (stretch-accepted s (sound (c .before .before)));
-      address = λ e. refl;
+          ap₂ (λ (n h : ℕ). take n (drop h s)) (count ∙ c .before .before .step-count .ensures .0) head
+          ∙ sym (stretch-accepted s (sound (c .before .before .before)));
+      address = λ e. ap (λ (h : ℕ). (ptr file .0, h + ptr file .1)) head;
     }
 
 pub operations-spec : {M : Type 1} → statement M
@@ -77,6 +85,7 @@ operations-spec =
     part-result-end
     returns
     step-count-requires
+    head-length-requires
     add-end
     sub-result-2
     part-result-start-2

@@ -6,7 +6,7 @@ use lib.ListN.{length}
 use denote.Ref.{now}
 use borrow.Author.Tests.{eq-eqb, ne-eqb}
 use Rattle.file_calls.specs.FileCalls.{operationsLength}
-use Rattle.file_calls.proofs.Answered.{operations-told}
+use Rattle.file_calls.proofs.Answered.{stretch-head, operations-told}
 use Rattle.layouts.proofs.Written.{all-written}
 use borrow.Author.Needs.{needs}
 use Rattle.file_calls.proofs.operations_call.Statement.{statement}
@@ -20,6 +20,9 @@ returns c = let e = ne-eqb _ operationsLength (c .if1 .taken) in record { result
 
 operations-requires : tie.Need-operations-requires
 operations-requires c κs = search needs
+
+head-length-requires : tie.Need-head-length-requires
+head-length-requires c κs = stretch-head _ (λ e. c .if2 .left (ap length (c .before .operations .ensures .contents) ∙ e))
 
 slice-aggregate-copy-front : tie.Need-slice-aggregate-copy-front
 slice-aggregate-copy-front c = search needs
@@ -41,7 +44,7 @@ returns-2 c =
       out =
           rw e
           (c .before .before .copy-front .ensures ∙ all-written operationsLength _ out refl long ∙ operations-told _ _ _ (ap length (found c .operations .ensures .contents))
-          (⊎-elim (λ w. inl (w .0 .taken, w .1)) (λ w. inr (w .0 .left, w .1)) (c .before .before .before .before .before .if2 .came)));
+          (⊎-elim (λ w. inl (w .0 .taken, w .1)) (λ w. inr (w .0 .left, w .2 ∙ w .1 .ensures)) (c .before .before .before .before .before .if2 .came)));
     }
 
 pub operations-call-spec : {M : Type 1} → statement M
@@ -50,6 +53,7 @@ operations-call-spec =
     (tie.spec
     returns
     operations-requires
+    head-length-requires
     slice-aggregate-copy-front
     copy-front-requires
     same-length

@@ -15,8 +15,9 @@ use Rattle.evaluate.proofs.Words.{output-entries}
 use Rattle.evaluate.specs.Run.{Ready}
 use Rattle.places.specs.Places.{size, vectorAt}
 use Rattle.sizes.specs.Sizes.{maxInputs}
-use Rattle.vectors.specs.Vectors.{padded, Placed}
-use Rattle.vectors.proofs.Padded.{padded-entry}
+use Rattle.sizes.specs.Padded.{padded}
+use Rattle.vectors.specs.Vectors.{Placed}
+use Rattle.sizes.proofs.Padded.{padded-entry}
 use Rattle.file_tables.specs.Filling.{Filling}
 use Rattle.slices.specs.Slices.{KeptPast}
 use Rattle.slices.proofs.Copied as Written

@@ -11,6 +11,7 @@ use Rattle.bound.specs.Axes.{range, axis}
 use Rattle.bound.proofs.Table.{bound-most}
 use Rattle.grid.specs.Grid.{gridOf, gridSize, axesOf}
 use Rattle.grid.proofs.Axes.{size-fits}
+use Rattle.grid.proofs.Grids.{length-axes}
 use Rattle.lists.proofs.Lists.{set-front, map-take}
 use Rattle.places.proofs.Places.{size-snoc}
 use Rattle.places.specs.Places as Places
@@ -135,7 +136,9 @@ returns c =
     let z = entered (c .before .before .before .before) .args .z in
     let f = c .before .loop .inv in
     let e : c .before .loop .i ≡ z .d = omega arith in
-    λ j. record { axes = (f .filled ∙ ap (λ i. map (axis (z .m)) (take i (z .widths)) ++ replicate (maxInputs - i) 0) e) j; size = (f .sized ∙ ap (λ i. Places.size (map (axis (z .m)) (take i (z .widths)))) e) j }
+    let filled = f .filled ∙ ap (λ i. map (axis (z .m)) (take i (z .widths)) ++ replicate (maxInputs - i) 0) e in
+    let zeros = ap (λ n. axesOf z ++ replicate (maxInputs - n) 0) (sym (length-axes z (f .known) (entered (c .before .before .before .before) .pre .1))) in
+    λ j. record { axes = (filled ∙ zeros) j; size = (f .sized ∙ ap (λ i. Places.size (map (axis (z .m)) (take i (z .widths)))) e) j }
 
 pub grid-of-spec : {M : Type 1} → statement M
 grid-of-spec =

@@ -15,7 +15,8 @@ use Rattle.grid.specs.declared.Grid.{Grid}
 use Rattle.layouts.specs.AnswerWords.{refusalWords}
 use Rattle.sizes.specs.Sizes.{maxInputs}
 use Rattle.sizes.specs.declared.Refusal.{Refusal}
-use Rattle.grid_calls.specs.GridCalls.{gridLength, gridAsWords, noGrid}
+use Rattle.layouts.specs.Lengths.{gridLength}
+use Rattle.grid_calls.specs.GridCalls.{gridAsWords, noGrid}
 use Rattle.grid_calls.proofs.Answered.{refusal-accepted, grid-refused, grid-accepted}
 use Rattle.grid_calls.proofs.Put.{zeros-put, grid-put}
 use borrow.Author.Needs.{needs}

@@ -5,6 +5,7 @@ use mathlib.Core.List.{List}
 use mathlib.Core.Path.{_∙_}
 use Prim.Native.Nat.{ℕ, _-_, _≤_}
 use native.Mathlib.Omega.{arith}
+use Rattle.fields.proofs.Heads.{head-short}
 use Rattle.plan.proofs.Axes.{file-axis-most}
 use Rattle.rows.proofs.Writing.{before-row}
 use Rattle.line_outputs.specs.declared.Along.{Along}
@@ -38,7 +39,7 @@ abbrev run : tie.After-first-unequal Inv-loop μ-loop → tie.After-refresh Inv-
 run c = c .before .before .before .before
 
 output-length-requires : tie.Need-output-length-requires Inv-loop μ-loop
-output-length-requires c κs = c .before .before .before .before .before .pre .0 .sound .long
+output-length-requires c κs = head-short _ (c .before .before .before .before .before .pre .0 .sound .long)
 
 loop-holds : tie.Need-loop-holds Inv-loop μ-loop
 loop-holds c =

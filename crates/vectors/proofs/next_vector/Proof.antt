@@ -9,7 +9,8 @@ use lib.ListN.{length, getD, take, drop, set}
 use lib.Seq.{length-take-le, getD-take}
 use Rattle.places.specs.Places.{size, vectorAt, placeOf}
 use Rattle.places.proofs.Places.{oneToOne}
-use Rattle.vectors.specs.Vectors.{padded, Placed}
+use Rattle.sizes.specs.Padded.{padded}
+use Rattle.vectors.specs.Vectors.{Placed}
 use Rattle.vectors.proofs.Digits.{Digits, digit, digit-most, place-set, placed, same-place, size-drop, size-dropped, written}
 use borrow.Author.Needs.{needs}
 use mir.Syntax.{w64}

@@ -22,8 +22,9 @@ use Rattle.plan.proofs.Numbers as plan
 use Rattle.ranges.specs.Search.{first}
 use Rattle.ranges.proofs.Search.{first-here, first-step, first-end}
 use Rattle.sizes.specs.Sizes.{maxInputs}
-use Rattle.vectors.specs.Vectors.{padded, Placed}
-use Rattle.vectors.proofs.Padded.{padded-entry}
+use Rattle.sizes.specs.Padded.{padded}
+use Rattle.vectors.specs.Vectors.{Placed}
+use Rattle.sizes.proofs.Padded.{padded-entry}
 use Rattle.walk.specs.Walk.{Within}
 use Rattle.walk.proofs.Outputs.{test-padded}
 use Rattle.walk.proofs.by_places.Statement.{statement}

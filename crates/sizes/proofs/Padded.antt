@@ -1,12 +1,12 @@
--- The entries of a padded vector are the vector's own: past its end these are 0, as the zeros are that fill it up.
--- Assumes nothing.
+-- The entries of a padded list are the list's own: past its end these are 0, as the zeros are that fill it up. It has maxInputs entries, unless
+-- the list has more. Assumes nothing.
 use mathlib.Core.Path.{_≡_, refl}
 use mathlib.Core.List.{List, [], _∷_, _++_}
 use Prim.Native.Nat.{ℕ, zero, suc, _-_, _≤_}
 use native.Mathlib.Omega.{arith}
 use lib.ListN.{length, getD, replicate, length-append, length-replicate}
+use Rattle.sizes.specs.Padded.{padded}
 use Rattle.sizes.specs.Sizes.{maxInputs}
-use Rattle.vectors.specs.Vectors.{padded}
 
 padding-entry : (v : List ℕ) (n i : ℕ) → getD (v ++ replicate n 0) i 0 ≡ getD v i 0
 padding-entry [] zero i = refl

@@ -1,4 +1,4 @@
--- Worked examples of a file's fields: the bytes of the head, each where document 01 has it, and an argument of two operands.
+-- Worked examples of a file's fields: the bytes of a short and of a long head, each where document 01 has it, and an argument of two operands.
 use mathlib.Core.List.{List, [], _∷_, _++_}
 use mathlib.Core.Path.{_≡_, refl}
 use Prim.Native.Nat.{ℕ}
@@ -18,6 +18,20 @@ head-sizes = refl
 head-count : stepCount head ≡ 257
 unfolding stepCount little head
 head-count = refl
+
+-- m 16, d 10, N 1, word lengths 1 to 10, and a step that subtracts step 515 from step 258
+ten-inputs : List ℕ
+ten-inputs =
+    (0x10 ∷ 0x0a ∷ 0x01 ∷ 0x00 ∷ 0x01 ∷ 0x02 ∷ 0x03 ∷ 0x04 ∷ 0x05 ∷ 0x06 ∷ 0x07 ∷ 0x08 ∷ 0x09 ∷ 0x0a ∷ [])
+    ++ (0x04 ∷ 0x02 ∷ 0x01 ∷ 0x03 ∷ 0x02 ∷ 0x00 ∷ 0x00 ∷ 0x00 ∷ 0x00 ∷ [])
+
+ten-sizes : sizesOf ten-inputs ≡ record { m = 16; d = 10; widths = 1 ∷ 2 ∷ 3 ∷ 4 ∷ 5 ∷ 6 ∷ 7 ∷ 8 ∷ 9 ∷ 10 ∷ [] }
+unfolding sizesOf widthBytes ten-inputs
+ten-sizes = refl
+
+ten-subtracts : stepAt ten-inputs 0 ≡ Subtract 258 515
+unfolding stepAt decoded operation argument widthBytes sizesOf stepCount little ten-inputs
+ten-subtracts = refl
 
 -- one step, which subtracts step 515 from step 258
 one-step : List ℕ

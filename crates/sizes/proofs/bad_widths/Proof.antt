@@ -1,4 +1,4 @@
--- `sizes::bad_widths` meets its contract. The loop's invariant: the rule holds at all eight places just where it holds from place i on.
+-- `sizes::bad_widths` meets its contract. The loop's invariant: the rule holds at all places just where it holds from place i on.
 -- Assumes nothing.
 use mathlib.Core.Bool.{not}
 use mathlib.Core.Path.{_≡_, sym, ap, _∙_}

@@ -1,7 +1,8 @@
--- What a call that returned 1 answers, for a caller in C, of any words that a C function's contract holds of; where the place of a word is no
--- number it has the header's name, which `layouts` specs/Statement gives as a number. It is proved in proofs/, as acceptedInC. The parameters are those of the contracts: what was given and lent, and the
--- slices at exit (with a ′). Word 0 of an answer is the number word; the call is accepted where it is 0. What an accepted continue call says is in
--- specs/Demand3InC, and the refusal words are in specs/SaidInC.
+-- What a call that returned 1 answers, for a caller in C, of any words that a C function's contract holds of. A place that hangs on the count
+-- of inputs has the header's name (`Offsets` in `layouts` specs/Statement gives the number), and any other is the header's number. It is proved
+-- in proofs/, as acceptedInC. The parameters are those of the contracts: what was given and lent, and the slices at exit (with a ′). Word 0 of an
+-- answer is the number word; the call is accepted where it is 0. What an accepted continue call says is in specs/Demand3InC, and the refusal words
+-- are in specs/SaidInC.
 --   Checked f o′         of corkbingo_check:
 --     number       the number word is the file's number: that of the first condition of 1 to 8 that it meets, or 0
 --     sound        it is 0 exactly where the file keeps all rules of a file

@@ -1,7 +1,7 @@
 -- The conditions that a file meets, each under document 01's number ('Refused because of the input'), and what checking a file answers.
 --   maxSteps          the largest N
 --   tooShort          1. the file is shorter than a short head
---   shortOfHead       1, once d is known. the file is shorter than its own head
+--   shortOfHead       1 too, once d is known to be 1 to maxInputs. the file is shorter than its own head
 --   badOutput, badInputs, badWidths of its sizes   2, 3, 5
 --   badCount          4. N is not 1 to maxSteps
 --   badLength         6. the length is not that of the head and 9N

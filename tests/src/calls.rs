@@ -43,15 +43,17 @@ pub fn bound(m: u64) -> [u64; 10] {
     answer
 }
 
-/// Number, file, step, u1 to u8, G.
-pub fn grid(file: &[u8]) -> [u64; 4 + INPUTS] {
-    let mut answer = [0; 4 + INPUTS];
+/// The words of a grid's answer: number, file, step, u1 to u10, G.
+pub const GRID: usize = 4 + INPUTS;
+
+pub fn grid(file: &[u8]) -> [u64; GRID] {
+    let mut answer = [0; GRID];
     match read(file, 1) {
         Err(refusal) => answer[..3].copy_from_slice(&words(refusal)),
         Ok(path) => {
             let axes = grid::axes(&path.sizes);
             answer[3..3 + axes.len()].copy_from_slice(&axes);
-            answer[3 + INPUTS] = grid::size(&axes);
+            answer[GRID - 1] = grid::size(&axes);
         }
     }
     answer
@@ -101,7 +103,10 @@ mod tests {
     fn answers_of_the_sample() {
         assert_eq!(check(&SAMPLE_A), [0, 0, 0]);
         assert_eq!(operations(&SAMPLE_A), [12, 3]);
-        assert_eq!(grid(&SAMPLE_A), [0, 0, 0, 2, 4, 0, 0, 0, 0, 0, 0, 8]);
+        let mut expected = [0; GRID];
+        expected[3..5].copy_from_slice(&[2, 4]);
+        expected[GRID - 1] = 8;
+        assert_eq!(grid(&SAMPLE_A), expected);
         let done = evaluate(&SAMPLE_A, &[1, 3], &[7, 7, 7, 7]);
         assert_eq!((done.answer, done.exact), ([0, 0, 0, 3], true));
         assert_eq!(done.scratch, [0, 0, 0, 7]);

@@ -15,7 +15,7 @@ pub enum Expression {
     Power(Box<Expression>, u32),
 }
 
-/// Input x1 to x8, named as document 01 names them.
+/// Input x1 to x10, named as document 01 names them.
 pub fn x(number: usize) -> Expression {
     Expression::Input(number - 1)
 }

@@ -2,15 +2,30 @@
 
 use crate::sizes::{INPUTS, Sizes, sound_d, sound_m, sound_widths};
 
-/// The bytes before the operations.
-pub const HEAD: usize = 4 + INPUTS;
+/// The most inputs of a file with the short head, which holds so many word lengths. The long head
+/// of a file with more inputs holds as many as there can be.
+pub const SHORT_INPUTS: usize = 8;
 
 /// The most steps that a file may have.
 pub const STEPS: usize = 1024;
 
-/// The length of a file of `count` steps.
-pub fn length(count: usize) -> usize {
-    HEAD + 9 * count
+/// The length of the head, the bytes before the operations, of a file with d inputs: m, d, two
+/// bytes for N, and the word lengths.
+pub const fn head(d: usize) -> usize {
+    if d <= SHORT_INPUTS {
+        4 + SHORT_INPUTS
+    } else {
+        4 + INPUTS
+    }
+}
+
+/// The short head and the long one.
+pub const SHORT_HEAD: usize = head(SHORT_INPUTS);
+pub const LONG_HEAD: usize = head(INPUTS);
+
+/// The length of a file of d inputs and `count` steps.
+pub fn length(d: usize, count: usize) -> usize {
+    head(d) + 9 * count
 }
 
 #[derive(Clone, Copy, Debug, PartialEq, Eq)]
@@ -46,43 +61,63 @@ pub struct Datapath {
     pub steps: Vec<Step>,
 }
 
-/// Reads the file that a call counts as `file` (1 or 2). The conditions 1 to 6 are judged in this
-/// order, then at each step 7 before 8.
+/// Reads the file that a call counts as `file` (1 or 2). The conditions are judged in this order: 1
+/// for the short head, 2, 3, 1 for the head that d asks for, 4 to 6, then at each step 7 before 8.
 pub fn read(bytes: &[u8], file: u64) -> Result<Datapath, Refusal> {
-    let refuse = |number, step| Refusal { number, file, step };
-    if bytes.len() < HEAD {
-        return Err(refuse(1, 0));
+    let refuse = |number| Refusal {
+        number,
+        file,
+        step: 0,
+    };
+    if bytes.len() < SHORT_HEAD {
+        return Err(refuse(1));
     }
     let m = u64::from(bytes[0]);
-    let d = u64::from(bytes[1]);
-    let count = usize::from(bytes[2]) + 256 * usize::from(bytes[3]);
-    let widths: [u64; INPUTS] = std::array::from_fn(|input| u64::from(bytes[4 + input]));
+    let d = usize::from(bytes[1]);
     if !sound_m(m) {
-        return Err(refuse(2, 0));
+        return Err(refuse(2));
     }
-    if !sound_d(d) {
-        return Err(refuse(3, 0));
+    if !sound_d(d as u64) {
+        return Err(refuse(3));
     }
+    if bytes.len() < head(d) {
+        return Err(refuse(1));
+    }
+    let count = usize::from(bytes[2]) + 256 * usize::from(bytes[3]);
     if !(1..=STEPS).contains(&count) {
-        return Err(refuse(4, 0));
+        return Err(refuse(4));
     }
-    if !sound_widths(d, &widths) {
-        return Err(refuse(5, 0));
+    let mut widths = [0; INPUTS];
+    for (width, &byte) in widths.iter_mut().zip(&bytes[4..head(d)]) {
+        *width = u64::from(byte);
     }
-    if bytes.len() != length(count) {
-        return Err(refuse(6, 0));
+    if !sound_widths(d as u64, &widths) {
+        return Err(refuse(5));
     }
-    let sizes = Sizes {
-        m,
-        widths: widths[..d as usize].to_vec(),
-    };
-    let (operations, arguments) = bytes[HEAD..].split_at(count);
+    if bytes.len() != length(d, count) {
+        return Err(refuse(6));
+    }
+    let widths = widths[..d].to_vec();
+    read_steps(Sizes { m, widths }, &bytes[head(d)..], count, file)
+}
+
+/// The datapath of these sizes, with the steps in the bytes after the head.
+pub(crate) fn read_steps(
+    sizes: Sizes,
+    bytes: &[u8],
+    count: usize,
+    file: u64,
+) -> Result<Datapath, Refusal> {
+    let (operations, arguments) = bytes.split_at(count);
     let mut steps = Vec::new();
     for (step, (&operation, argument)) in operations.iter().zip(arguments.chunks(8)).enumerate() {
         let number = |bytes: &[u8]| bytes.iter().rev().fold(0, |n, &b| n * 256 + u64::from(b));
         match read_step(&sizes, step, operation, number(argument)) {
             Ok(sound) => steps.push(sound),
-            Err(condition) => return Err(refuse(condition, step as u64)),
+            Err(number) => {
+                let step = step as u64;
+                return Err(Refusal { number, file, step });
+            }
         }
     }
     Ok(Datapath { sizes, steps })
@@ -113,7 +148,7 @@ pub fn write(path: &Datapath) -> Vec<u8> {
     let mut bytes = vec![path.sizes.m as u8, path.sizes.d() as u8];
     bytes.extend((count as u16).to_le_bytes());
     bytes.extend(path.sizes.widths.iter().map(|&n| n as u8));
-    bytes.resize(HEAD, 0);
+    bytes.resize(head(path.sizes.d()), 0);
     bytes.extend(path.steps.iter().map(|&step| write_step(step).0));
     for &step in &path.steps {
         bytes.extend(write_step(step).1.to_le_bytes());
@@ -136,7 +171,7 @@ fn write_step(step: Step) -> (u8, u64) {
 /// Start and length of the operation array in the file; nothing of a refused file.
 pub fn operations(bytes: &[u8]) -> (usize, usize) {
     match read(bytes, 1) {
-        Ok(path) => (HEAD, path.steps.len()),
+        Ok(path) => (head(path.sizes.d()), path.steps.len()),
         Err(_) => (0, 0),
     }
 }

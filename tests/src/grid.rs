@@ -58,6 +58,7 @@ pub fn vectors(bounds: &[u64]) -> impl Iterator<Item = Vec<u64>> + '_ {
 #[cfg(test)]
 mod tests {
     use super::*;
+    use crate::sizes::INPUTS;
 
     #[test]
     fn places_and_vectors_correspond_in_order() {
@@ -92,5 +93,7 @@ mod tests {
     #[test]
     fn the_largest_grid_fits_a_word() {
         assert_eq!(size(&[66; 8]), 360_040_606_269_696);
+        assert_eq!(size(&[66; INPUTS]), 1_568_336_880_910_795_776);
+        assert_eq!(66u64.checked_pow(INPUTS as u32 + 1), None);
     }
 }

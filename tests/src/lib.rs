@@ -8,6 +8,7 @@
 //! | `big` | signed integers of any size |
 //! | `sizes` | m, d and the word lengths, and their rules 2, 3 and 5 |
 //! | `file` | reading a datapath file, refusals 1 to 8, the operation stretch |
+//! | `older` | the reader of versions that take eight inputs at most |
 //! | `value` | exact values of the steps; the output |
 //! | `bound` | L(m) |
 //! | `grid` | axes, places, vectors, dictionary order |
@@ -21,6 +22,7 @@
 //! | `pairs` | the pairs of document 01 |
 //! | `examples` | the worked examples of document 002 |
 //! | `newton_examples` | the difference tables of both documents |
+//! | `ten_inputs` | files, pairs and tables of eight to ten inputs |
 //! | `random` | a generator of numbers with a fixed seed |
 //! | `samples` | random files, sound and damaged |
 //! | `twins` | random pairs of datapaths with the same sizes |
@@ -38,6 +40,7 @@ pub mod grid;
 pub mod mixed;
 pub mod newton;
 pub mod newton_examples;
+pub mod older;
 pub mod pairs;
 pub mod random;
 pub mod report;
@@ -46,5 +49,6 @@ pub mod sessions;
 pub mod sizes;
 pub mod spots;
 pub mod tables;
+pub mod ten_inputs;
 pub mod twins;
 pub mod value;

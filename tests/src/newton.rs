@@ -189,13 +189,32 @@ mod tests {
     #[test]
     fn each_direction_undoes_the_other() {
         let mut random = Random::new(0xd1f);
-        for axes in [vec![1], vec![66], vec![4, 6], vec![2; 8], vec![8, 2, 10]] {
+        for axes in [
+            vec![1],
+            vec![66],
+            vec![4, 6],
+            vec![2; 8],
+            vec![2; 10],
+            vec![8, 2, 10],
+        ] {
             for m in [1, 2, 7, 63, 64] {
                 let cells: Vec<u64> = (0..size(&axes)).map(|_| random.word() & top(m)).collect();
                 let table = differences(m, &axes, &cells);
                 assert_eq!(sums(m, &axes, &table), cells);
                 assert_eq!(differences(m, &axes, &sums(m, &axes, &cells)), cells);
             }
+        }
+    }
+
+    #[test]
+    fn closed_forms_of_ten_axes() {
+        let mut random = Random::new(0xd10);
+        let axes = [2; 10];
+        let cells: Vec<u64> = (0..size(&axes)).map(|_| random.word() & top(9)).collect();
+        let (table, values) = (differences(9, &axes, &cells), sums(9, &axes, &cells));
+        for (place, at) in vectors(&axes).enumerate() {
+            assert_eq!(table[place], difference_at(9, &axes, &cells, &at));
+            assert_eq!(values[place], sum_at(9, &axes, &cells, &at));
         }
     }
 }

@@ -15,7 +15,7 @@ pub struct Tabled {
 }
 
 impl Tabled {
-    fn new(
+    pub(crate) fn new(
         name: &'static str,
         sizes: (u64, &[u64]),
         polynomial: Expression,
@@ -56,10 +56,11 @@ mod tests {
     use crate::file::read;
     use crate::grid::{axes, place_of};
     use crate::tables::difference_table;
+    use crate::ten_inputs;
 
     #[test]
     fn the_reference_gives_the_tables() {
-        for example in tables() {
+        for example in tables().into_iter().chain(ten_inputs::tables()) {
             let path = read(&example.polynomial.file(example.m, &example.widths), 1).unwrap();
             let axes = axes(&path.sizes);
             let found = difference_table(&path);

@@ -171,10 +171,11 @@ mod tests {
     use crate::compare::compare_paths;
     use crate::file::read;
     use crate::grid::axes;
+    use crate::ten_inputs;
 
     #[test]
     fn the_reference_gives_the_verdicts() {
-        for pair in pairs() {
+        for pair in pairs().into_iter().chain(ten_inputs::pairs()) {
             let [left, right] = pair.files.each_ref().map(|file| read(file, 1).unwrap());
             let grid = axes(&left.sizes);
             let found = compare_paths(&grid, &left, &right);

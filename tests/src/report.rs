@@ -63,14 +63,16 @@ pub fn text(files: [&[u8]; 2], answer: &[u64; ANSWER], run: u64) -> String {
 #[cfg(test)]
 mod tests {
     use super::*;
+    use crate::expression::x;
     use crate::pairs::{SAMPLE_A, SAMPLE_B, pairs};
+    use crate::ten_inputs::{SAMPLE_TEN, ZERO_TEN};
 
     #[test]
     fn the_lines_of_document_01() {
         let lines = "grid 2 4 = 8\ndiffer 1 1 : 1 0\nrun 6\n";
         assert_eq!(report([&SAMPLE_A, &SAMPLE_B]), lines);
         assert_eq!(report([&SAMPLE_A, &[]]), "refused 1 2 0\n");
-        let made_up = [7, 8, 9, REFUSED, 6, 5, 4, 3, 2, 1, 0, 1, 2, 3, 4];
+        let made_up = [7, 8, 9, REFUSED, 6, 5, 4, 3, 2, 1, 0, 1, 2, 3, 4, 3, 4];
         let files: [&[u8]; 2] = [&SAMPLE_A, &SAMPLE_B];
         assert_eq!(text(files, &made_up, 11), "refused 7 8 9\n");
         for (kind, line) in [(EQUIVALENT, "equivalent"), (DIFFERS, "differ 5 4 : 3 4")] {
@@ -84,5 +86,18 @@ mod tests {
         let first = &pairs()[0].files;
         let lines = "grid 10 = 10\nequivalent\nrun 10\n";
         assert_eq!(report([&first[0], &first[1]]), lines);
+    }
+
+    #[test]
+    fn the_lines_of_ten_inputs() {
+        let lines = "grid 2 2 2 2 2 2 2 2 2 2 = 1024\ndiffer 1 0 0 0 0 0 0 0 0 1 : 1 0\nrun 514\n";
+        assert_eq!(report([&SAMPLE_TEN, &ZERO_TEN]), lines);
+        let mut answer = [u64::MAX; ANSWER];
+        answer[KIND] = DIFFERS;
+        let largest = x(10).file(64, &[64; 10]);
+        let longest = text([&largest, &largest], &answer, u64::MAX);
+        assert!(longest.starts_with("grid 66 66 66 66 66 66 66 66 66 66 = 1568336880910795776\n"));
+        assert_eq!(longest.matches("18446744073709551615").count(), 13);
+        assert!(longest.len() <= ROOM);
     }
 }

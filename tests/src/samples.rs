@@ -5,7 +5,7 @@
 //! multiplies what it has just made; from some twenty steps on its values pass `EXACT_BITS`, and
 //! the reference has only remainders for them.
 
-use crate::file::{Datapath, HEAD, STEPS, Step, length, write};
+use crate::file::{Datapath, SHORT_INPUTS, STEPS, Step, head, length, write};
 use crate::random::Random;
 use crate::sizes::{INPUTS, Sizes};
 
@@ -29,9 +29,14 @@ pub fn top(n: u64) -> u64 {
     u64::MAX >> (64 - n)
 }
 
-/// Sizes with this m. Word lengths of 1, of 64, of m and of any number occur.
+/// Sizes with this m and any d.
 pub fn sizes(random: &mut Random, m: u64) -> Sizes {
-    let d = random.between(1, INPUTS as u64);
+    let d = random.between(1, INPUTS as u64) as usize;
+    sizes_of(random, m, d)
+}
+
+/// Sizes with this m and d. Word lengths of 1, of 64, of m and of any number occur.
+pub fn sizes_of(random: &mut Random, m: u64, d: usize) -> Sizes {
     let mut width = || match random.below(5) {
         0 => 1,
         1 => 64,
@@ -111,10 +116,12 @@ pub fn vector(random: &mut Random, sizes: &Sizes) -> Vec<u64> {
 
 /// Damages a file; now and then it stays sound. A file too short for a step stays as it is.
 pub fn damage(random: &mut Random, bytes: &mut Vec<u8>) {
-    if bytes.len() < length(1) {
+    let d = bytes.get(1).copied().map_or(INPUTS, usize::from);
+    if bytes.len() < length(d, 1) {
         return;
     }
-    let count = (bytes.len() - HEAD) / 9;
+    let head = head(d);
+    let count = (bytes.len() - head) / 9;
     let step = match random.below(4) {
         0 => 0,
         1 => count - 1,
@@ -126,8 +133,8 @@ pub fn damage(random: &mut Random, bytes: &mut Vec<u8>) {
             bytes[place] = random.word() as u8;
         }
         1 => {
-            let place = random.index(HEAD);
-            bytes[place] = random.pick(&[0, 1, 8, 9, 64, 65, 255]);
+            let place = random.index(head);
+            bytes[place] = random.pick(&[0, 1, 8, 9, 10, 11, 64, 65, 255]);
         }
         2 => {
             let number = random.pick(&[0, count - 1, count + 1, STEPS + 1]) as u16;
@@ -142,10 +149,10 @@ pub fn damage(random: &mut Random, bytes: &mut Vec<u8>) {
             bytes.resize_with(longer, || random.word() as u8);
         }
         5 => bytes[0] = random.below(u64::from(bytes[0]) + 1) as u8,
-        6 | 7 => bytes[HEAD + step] = random.pick(&[0, 1, 2, 3, 4, 5, 6, 255]),
+        6 | 7 => bytes[head + step] = random.pick(&[0, 1, 2, 3, 4, 5, 6, 255]),
         _ => {
             let argument = bad_argument(random, step as u64);
-            let start = HEAD + count + 8 * step;
+            let start = head + count + 8 * step;
             bytes[start..start + 8].copy_from_slice(&argument.to_le_bytes());
         }
     }
@@ -165,14 +172,14 @@ fn bad_argument(random: &mut Random, step: u64) -> u64 {
 
 /// Bytes that are no file at all, though their first ones may look like one.
 pub fn noise(random: &mut Random) -> Vec<u8> {
-    let longest = length(4) as u64;
+    let d = random.pick(&[SHORT_INPUTS, SHORT_INPUTS + 1, INPUTS]);
+    let longest = length(d, 4) as u64;
     let mut bytes: Vec<u8> = (0..random.below(longest))
         .map(|_| random.word() as u8)
         .collect();
-    for (byte, sound) in bytes
-        .iter_mut()
-        .zip([64, 8, 2, 0, 1, 2, 3, 4, 61, 62, 63, 64])
-    {
+    let last = if d == INPUTS { 6 } else { 0 };
+    let sound = [64, d as u8, 2, 0, 1, 2, 3, 4, 61, 62, 63, 64, 5, last];
+    for (byte, sound) in bytes.iter_mut().zip(sound).take(head(d)) {
         if random.chance(80) {
             *byte = sound;
         }
@@ -189,7 +196,7 @@ mod tests {
     fn sound_files_are_read_back() {
         let mut random = Random::new(0x5a3);
         for m in 1..=64 {
-            let sizes = sizes(&mut random, m);
+            let sizes = sizes_of(&mut random, m, 1 + m as usize % INPUTS);
             for shape in SHAPES {
                 for count in [1, 2, 5, 40, 1024] {
                     let path = read(&file(&mut random, &sizes, count, shape), 1).unwrap();

@@ -3,14 +3,14 @@
 use crate::calls::{ACCEPTED, words};
 use crate::file::{Datapath, Refusal, read, write};
 use crate::grid::{axes, size, vector_at};
-use crate::sizes::INPUTS;
+use crate::sizes::{INPUTS, SIZES};
 use crate::value::output;
 use std::ops::Range;
 
-/// The words of a session: m, d, n1 to n8, position, mark.
-pub const SESSION: usize = 4 + INPUTS;
+/// The words of a session: m, d, n1 to n10, position, mark.
+pub const SESSION: usize = SIZES + 2;
 
-/// The words of an answer: number, file, step, kind, vectors run, x1 to x8, two outputs.
+/// The words of an answer: number, file, step, kind, vectors run, x1 to x10, two outputs.
 pub const ANSWER: usize = 7 + INPUTS;
 
 /// Where position and mark stand in a session, and kind and vectors run in an answer.
@@ -36,8 +36,8 @@ pub const MARKS: [Mark; 3] = [Mark::Open, Mark::Equal, Mark::Differ];
 
 #[derive(Clone, Debug, PartialEq, Eq)]
 pub struct Session {
-    /// m, d and the eight word lengths; they need not be sound.
-    pub sizes: [u64; 2 + INPUTS],
+    /// m, d and the ten word lengths; they need not be sound.
+    pub sizes: [u64; SIZES],
     pub position: u64,
     pub mark: Mark,
 }
@@ -46,7 +46,7 @@ impl Session {
     /// A session of zeros, marked open.
     pub fn zero() -> Session {
         Session {
-            sizes: [0; 2 + INPUTS],
+            sizes: [0; SIZES],
             position: 0,
             mark: Mark::Open,
         }
@@ -306,7 +306,7 @@ mod tests {
     use super::*;
     use crate::pairs::{SAMPLE_A, SAMPLE_B, pairs};
 
-    const START: [u64; SESSION] = [2, 2, 1, 2, 0, 0, 0, 0, 0, 0, 0, 0];
+    const START: [u64; SESSION] = [2, 2, 1, 2, 0, 0, 0, 0, 0, 0, 0, 0, 0, 0];
 
     #[test]
     fn the_sample_pair() {
@@ -315,11 +315,11 @@ mod tests {
         assert_eq!((opening.answer, opening.session), ([0, 0, 0], START));
         let first = continued(files, &START, 5, &[7; 4]).unwrap();
         assert_eq!(first.answer[..5], [0, 0, 0, SPENT, 5]);
-        assert_eq!(first.answer[5..], [0; 10]);
+        assert_eq!(first.answer[5..], [0; ANSWER - 5]);
         assert_eq!(first.session[POSITION..], [5, 0]);
         assert_eq!(first.scratch, [0, 0, 0, 7]);
         let last = continued(files, &first.session, u64::MAX, &[7; 3]).unwrap();
-        let shown = [0, 0, 0, DIFFERS, 1, 1, 1, 0, 0, 0, 0, 0, 0, 1, 0];
+        let shown = [0, 0, 0, DIFFERS, 1, 1, 1, 0, 0, 0, 0, 0, 0, 0, 0, 1, 0];
         assert_eq!(last.answer, shown);
         assert_eq!(last.session[POSITION..], [6, 2]);
         let late = continued(files, &last.session, 1, &[7; 3]).unwrap();
@@ -353,7 +353,10 @@ mod tests {
             }
             number(session)
         };
-        assert_eq!(with(&[(9, 1), (POSITION, 8), (MARK, 1)]), Some(101));
+        for unused in 4..POSITION {
+            let changes = [(unused, 1), (POSITION, 8), (MARK, 1)];
+            assert_eq!(with(&changes), Some(101), "word {unused}");
+        }
         assert_eq!(with(&[(POSITION, 8)]), Some(102));
         assert_eq!(with(&[(POSITION, 7), (MARK, 1)]), Some(102));
         assert_eq!(with(&[(POSITION, 0), (MARK, 2)]), Some(102));

@@ -1,7 +1,11 @@
 //! The sizes of a datapath: m, d and the word lengths, with their rules.
 
-/// The most inputs that a datapath may have; a file holds so many word lengths.
-pub const INPUTS: usize = 8;
+/// The most inputs that a datapath may have; sessions and sizes given as numbers hold so many word
+/// lengths.
+pub const INPUTS: usize = 10;
+
+/// The words of sizes given as numbers: m, d, n1 to n10.
+pub const SIZES: usize = 2 + INPUTS;
 
 /// Sound sizes. d is the count of the widths.
 #[derive(Clone, Debug, PartialEq, Eq)]
@@ -15,9 +19,9 @@ impl Sizes {
         self.widths.len()
     }
 
-    /// m, d and the eight word lengths.
-    pub fn numbers(&self) -> [u64; 2 + INPUTS] {
-        let mut numbers = [0; 2 + INPUTS];
+    /// m, d and the ten word lengths, 0 past the d-th.
+    pub fn numbers(&self) -> [u64; SIZES] {
+        let mut numbers = [0; SIZES];
         numbers[0] = self.m;
         numbers[1] = self.d() as u64;
         numbers[2..2 + self.d()].copy_from_slice(&self.widths);
@@ -25,7 +29,7 @@ impl Sizes {
     }
 
     /// Sizes given as numbers, or the condition that refuses them: 2, 3 or 5.
-    pub fn from_numbers(numbers: &[u64; 2 + INPUTS]) -> Result<Sizes, u64> {
+    pub fn from_numbers(numbers: &[u64; SIZES]) -> Result<Sizes, u64> {
         let [m, d, widths @ ..] = numbers;
         if !sound_m(*m) {
             return Err(2);

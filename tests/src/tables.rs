@@ -6,11 +6,11 @@ use crate::calls::{ACCEPTED, words};
 use crate::file::{Datapath, Refusal, read};
 use crate::grid::{axes, size, vectors};
 use crate::newton::{differences, exact_differences, sums};
-use crate::sizes::{INPUTS, Sizes};
+use crate::sizes::{SIZES, Sizes};
 use crate::value::{exact_values, output};
 
 /// Tables of so many cells at most are confirmed by exact differences of exact values.
-const EXACT_CELLS: u64 = 400;
+const EXACT_CELLS: u64 = 1_024;
 
 /// A slice that was lent for a table or for outputs, after the call.
 #[derive(Clone, Debug, PartialEq, Eq)]
@@ -95,17 +95,17 @@ pub fn table(file: &[u8], scratch: &[u64], table: &[u64]) -> Made {
 }
 
 /// Writes the differences of the given outputs; no answer where a size is no byte.
-pub fn difference(numbers: &[u64; 2 + INPUTS], outputs: &[u64], table: &[u64]) -> Option<Written> {
+pub fn difference(numbers: &[u64; SIZES], outputs: &[u64], table: &[u64]) -> Option<Written> {
     rewritten(numbers, outputs, table, differences)
 }
 
 /// Writes the outputs of the given table; no answer where a size is no byte.
-pub fn sum(numbers: &[u64; 2 + INPUTS], table: &[u64], outputs: &[u64]) -> Option<Written> {
+pub fn sum(numbers: &[u64; SIZES], table: &[u64], outputs: &[u64]) -> Option<Written> {
     rewritten(numbers, table, outputs, sums)
 }
 
 fn rewritten(
-    numbers: &[u64; 2 + INPUTS],
+    numbers: &[u64; SIZES],
     given: &[u64],
     lent: &[u64],
     work: fn(u64, &[u64], &[u64]) -> Vec<u64>,
@@ -127,7 +127,7 @@ fn rewritten(
 }
 
 /// The sizes and G, or the condition that refuses: 2, 3, 5 or 13.
-fn judge(numbers: &[u64; 2 + INPUTS], given: &[u64], lent: &[u64]) -> Result<(Sizes, usize), u64> {
+fn judge(numbers: &[u64; SIZES], given: &[u64], lent: &[u64]) -> Result<(Sizes, usize), u64> {
     let sizes = Sizes::from_numbers(numbers)?;
     let count = size(&axes(&sizes)) as usize;
     let above = |&cell: &u64| u128::from(cell) >= 1 << sizes.m;
@@ -142,7 +142,7 @@ mod tests {
     use super::*;
     use crate::pairs::SAMPLE_A;
 
-    const SIZES: [u64; 10] = [2, 2, 1, 2, 0, 0, 0, 0, 0, 0];
+    const SAMPLE: [u64; SIZES] = [2, 2, 1, 2, 0, 0, 0, 0, 0, 0, 0, 0];
     const OUTPUTS: [u64; 8] = [0, 0, 0, 0, 0, 1, 2, 3];
     const TABLE: [u64; 8] = [0, 0, 0, 0, 0, 1, 0, 0];
 
@@ -155,8 +155,8 @@ mod tests {
             (made.scratch.as_slice(), made.exact),
             (&[0, 0, 0, 7][..], true)
         );
-        assert_eq!(difference(&SIZES, &OUTPUTS, &[9; 8]).unwrap().cells, TABLE);
-        assert_eq!(sum(&SIZES, &TABLE, &[9; 8]).unwrap().cells, OUTPUTS);
+        assert_eq!(difference(&SAMPLE, &OUTPUTS, &[9; 8]).unwrap().cells, TABLE);
+        assert_eq!(sum(&SAMPLE, &TABLE, &[9; 8]).unwrap().cells, OUTPUTS);
     }
 
     #[test]
@@ -176,16 +176,16 @@ mod tests {
             cells: vec![9; 8],
         };
         let above = [0, 0, 0, 0, 0, 0, 0, 4];
-        assert_eq!(sum(&SIZES, &above, &[9; 8]), Some(refused.clone()));
-        assert_eq!(difference(&SIZES, &OUTPUTS[1..], &[9; 8]), Some(refused));
+        assert_eq!(sum(&SAMPLE, &above, &[9; 8]), Some(refused.clone()));
+        assert_eq!(difference(&SAMPLE, &OUTPUTS[1..], &[9; 8]), Some(refused));
     }
 
     #[test]
     fn sizes_that_are_no_bytes() {
-        let mut sizes = SIZES;
-        sizes[9] = 255;
+        let mut sizes = SAMPLE;
+        sizes[SIZES - 1] = 255;
         assert_eq!(sum(&sizes, &TABLE, &[]).unwrap().answer, [5, 0, 0]);
-        sizes[9] = 256;
+        sizes[SIZES - 1] = 256;
         assert_eq!(sum(&sizes, &TABLE, &[]), None);
     }
 }

@@ -1,11 +1,11 @@
 //! Random pairs of datapaths with the same sizes: equivalent by construction, first differing at a
 //! chosen place, or whatever a random change makes of them.
 
-use crate::file::{Datapath, Step};
+use crate::file::{Datapath, SHORT_INPUTS, Step};
 use crate::grid::{axes, size};
 use crate::random::Random;
 use crate::samples::{self, Shape, top};
-use crate::sizes::Sizes;
+use crate::sizes::{INPUTS, Sizes};
 
 /// What the second datapath has to do with the first.
 #[derive(Clone, Copy, Debug, PartialEq, Eq, PartialOrd, Ord)]
@@ -55,6 +55,23 @@ pub fn small_sizes(random: &mut Random, m: u64, most: u64) -> Sizes {
         }
     }
     sizes
+}
+
+/// Sizes with this m and eight to ten inputs, of which each takes two values on the grid.
+pub fn many_inputs(random: &mut Random, m: u64) -> Sizes {
+    let d = random.between(SHORT_INPUTS as u64, INPUTS as u64);
+    let most = if m == 1 { 64 } else { 1 };
+    let widths = (0..d).map(|_| random.between(1, most)).collect();
+    Sizes { m, widths }
+}
+
+/// Small sizes, and in `percent` of a hundred draws such of eight to ten inputs, whose grids are
+/// larger than `most` may be.
+pub fn varied_sizes(random: &mut Random, m: u64, most: u64, percent: u64) -> Sizes {
+    match random.chance(percent) {
+        true => many_inputs(random, m),
+        false => small_sizes(random, m, most),
+    }
 }
 
 /// A datapath of few steps.
@@ -225,7 +242,7 @@ mod tests {
     fn kinds_keep_their_promises() {
         let mut random = Random::new(0x7713);
         for round in 0..300 {
-            let sizes = small_sizes(&mut random, 1 + round % 64, 100);
+            let sizes = varied_sizes(&mut random, 1 + round % 64, 100, 10);
             let first = path(&mut random, &sizes);
             for kind in KINDS {
                 let second = twin(&mut random, &first, kind);

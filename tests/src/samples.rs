@@ -127,7 +127,7 @@ pub fn damage(random: &mut Random, bytes: &mut Vec<u8>) {
         1 => count - 1,
         _ => random.index(count),
     };
-    match random.below(10) {
+    match random.below(11) {
         0 => {
             let place = random.index(bytes.len());
             bytes[place] = random.word() as u8;
@@ -149,7 +149,8 @@ pub fn damage(random: &mut Random, bytes: &mut Vec<u8>) {
             bytes.resize_with(longer, || random.word() as u8);
         }
         5 => bytes[0] = random.below(u64::from(bytes[0]) + 1) as u8,
-        6 | 7 => bytes[head + step] = random.pick(&[0, 1, 2, 3, 4, 5, 6, 255]),
+        6 => bytes[1] = random.pick(&[0, 1, 8, 9, 10, 11]),
+        7 | 8 => bytes[head + step] = random.pick(&[0, 1, 2, 3, 4, 5, 6, 255]),
         _ => {
             let argument = bad_argument(random, step as u64);
             let start = head + count + 8 * step;

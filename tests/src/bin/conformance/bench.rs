@@ -1,7 +1,7 @@
 //! One call of the product, compared with the reference or with a figure from the papers.
 
 use crate::product::Product;
-use reference::calls::{self, Evaluation};
+use reference::calls::{self, Evaluation, GRID};
 use std::fmt::Debug;
 
 /// What went wrong, in words, where something did.
@@ -111,7 +111,7 @@ impl Bench {
         Ok(answer)
     }
 
-    pub fn grid(&mut self, file: &[u8]) -> Outcome<[u64; 12]> {
+    pub fn grid(&mut self, file: &[u8]) -> Outcome<[u64; GRID]> {
         let answer = self.product.grid(file)?;
         self.same(&answer, &calls::grid(file), || named("grid", file))?;
         Ok(answer)

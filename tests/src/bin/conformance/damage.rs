@@ -3,11 +3,12 @@
 use crate::bench::{Bench, Outcome};
 use crate::refusals::plain;
 use reference::expression::{falling, x};
-use reference::file::{STEPS, length};
+use reference::file::{LONG_HEAD, SHORT_HEAD, SHORT_INPUTS, STEPS, length};
 use reference::pairs::{SAMPLE_A, SAMPLE_B};
 use reference::sizes::INPUTS;
+use reference::ten_inputs::SAMPLE_NINE;
 
-/// Small files that between them hold every operation, one input and eight, m 1 and 64.
+/// Small files that between them hold every operation, one input and eight to ten, m 1 and 64.
 fn small_files() -> Vec<Vec<u8>> {
     vec![
         SAMPLE_A.to_vec(),
@@ -15,6 +16,8 @@ fn small_files() -> Vec<Vec<u8>> {
         plain(1, &[1], 1),
         (falling(x(1), 2) + 3).file(8, &[8]),
         (x(8) * 5 - x(1)).file(64, &[1, 64, 2, 63, 3, 62, 4, 61]),
+        SAMPLE_NINE.to_vec(),
+        (x(10) * 5 - x(9)).file(64, &[1, 64, 2, 63, 3, 62, 4, 61, 5, 60]),
     ]
 }
 
@@ -26,7 +29,8 @@ fn compare(bench: &mut Bench, file: &[u8], inputs: usize) -> Outcome {
     Ok(())
 }
 
-/// Every length from 0 up to the file's own, then on past the longest file there is.
+/// Every length from 0 up to the file's own, then on past the longest file there is. The shorter ones
+/// also where d says that the head is the short one, or the long one.
 pub fn lengths(bench: &mut Bench) -> Outcome {
     for file in small_files() {
         let inputs = usize::from(file[1]);
@@ -34,16 +38,25 @@ pub fn lengths(bench: &mut Bench) -> Outcome {
             compare(bench, &file[..cut], inputs)?;
         }
         let mut longer = file.clone();
-        while longer.len() < length(STEPS) + 100 {
+        while longer.len() < length(INPUTS, STEPS) + 100 {
             longer.push(longer.len() as u8);
             compare(bench, &longer, inputs)?;
         }
+        longer.truncate(file.len() + LONG_HEAD - SHORT_HEAD);
+        for d in SHORT_INPUTS..=INPUTS {
+            longer[1] = d as u8;
+            for cut in 0..=longer.len() {
+                compare(bench, &longer[..cut], d)?;
+            }
+        }
     }
-    let mut largest = plain(64, &[64; INPUTS], STEPS);
-    compare(bench, &largest, INPUTS)?;
-    for extra in [1, 8, 9, 1000] {
-        largest.resize(length(STEPS) + extra, 0);
-        bench.refuses(&largest, [6, 1, 0])?;
+    for d in [SHORT_INPUTS, INPUTS] {
+        let mut largest = plain(64, &vec![64; d], STEPS);
+        compare(bench, &largest, d)?;
+        for extra in [1, 2, 8, 9, 1000] {
+            largest.resize(length(d, STEPS) + extra, 0);
+            bench.refuses(&largest, [6, 1, 0])?;
+        }
     }
     Ok(())
 }

@@ -1,21 +1,29 @@
 //! A small sound file and the faults that it can have, in the order in which they are judged.
 
-use reference::file::{Datapath, HEAD, Step, write};
-use reference::sizes::Sizes;
+use reference::file::{Datapath, LONG_HEAD, SHORT_HEAD, Step, head, write};
+use reference::sizes::{INPUTS, Sizes};
 
-/// The count of steps of the sound file.
+/// The count of steps of a sound file.
 pub const STEPS: usize = 5;
 
-/// The word lengths of the sound file; m is 8, so its grid is 10 by 8.
-pub const WIDTHS: [u64; 2] = [8, 3];
+/// m of a sound file.
+pub const M: u64 = 8;
 
-pub fn sound_file() -> Vec<u8> {
-    let sizes = Sizes {
-        m: 8,
-        widths: WIDTHS.to_vec(),
-    };
+/// The word lengths of a sound file with the short head, whose grid is 10 by 8, and of one with the
+/// long head, on whose grid each input takes two values.
+pub const WIDTHS: [u64; 2] = [8, 3];
+pub const LONG_WIDTHS: [u64; 9] = [1; 9];
+
+/// The sizes of a sound file.
+pub fn sound_sizes(widths: &[u64]) -> Sizes {
+    let widths = widths.to_vec();
+    Sizes { m: M, widths }
+}
+
+pub fn sound_file(widths: &[u64]) -> Vec<u8> {
+    let sizes = sound_sizes(widths);
     let steps = vec![
-        Step::Input(1),
+        Step::Input(widths.len() - 1),
         Step::Constant(200),
         Step::Add(0, 1),
         Step::Subtract(2, 0),
@@ -29,28 +37,50 @@ pub struct FileFault {
     pub number: u64,
     pub step: u64,
     pub make: fn(&mut Vec<u8>),
+    /// Whether only a file with the long head can have it.
+    long: bool,
 }
 
 const fn fault(number: u64, step: u64, make: fn(&mut Vec<u8>)) -> FileFault {
-    FileFault { number, step, make }
+    FileFault {
+        number,
+        step,
+        make,
+        long: false,
+    }
+}
+
+/// The head of a file whose d is sound.
+fn head_of(file: &[u8]) -> usize {
+    head(usize::from(file[1]))
 }
 
 fn operation(file: &mut [u8], step: usize) {
-    file[HEAD + step] = 6;
+    file[head_of(file) + step] = 6;
 }
 
 /// Makes the argument one that no operation takes at m 8.
 fn argument(file: &mut [u8], step: usize) {
-    file[HEAD + STEPS + 8 * step + 7] = 1;
+    file[head_of(file) + STEPS + 8 * step + 7] = 1;
 }
 
-/// Several are made in the reverse order, so that those inside the file are made before it is cut.
-pub const FILE_FAULTS: [FileFault; 14] = [
-    fault(1, 0, |file| file.truncate(HEAD - 1)),
+/// Several are made in the reverse order, so that those inside the file are made before it is cut,
+/// and those that ask for its head before d is changed.
+const FILE_FAULTS: [FileFault; 15] = [
+    fault(1, 0, |file| file.truncate(SHORT_HEAD - 1)),
     fault(2, 0, |file| file[0] = 65),
-    fault(3, 0, |file| file[1] = 9),
+    fault(3, 0, |file| file[1] = INPUTS as u8 + 1),
+    FileFault {
+        number: 1,
+        step: 0,
+        make: |file| file.truncate(LONG_HEAD - 1),
+        long: true,
+    },
     fault(4, 0, |file| file[3] = 5),
-    fault(5, 0, |file| file[HEAD - 1] = 1),
+    fault(5, 0, |file| {
+        let last = head_of(file) - 1;
+        file[last] = 1;
+    }),
     fault(6, 0, |file| {
         file.pop();
     }),
@@ -64,17 +94,29 @@ pub const FILE_FAULTS: [FileFault; 14] = [
     fault(8, 4, |file| argument(file, 4)),
 ];
 
+/// The faults of a sound file with these word lengths.
+pub fn file_faults(widths: &[u64]) -> impl Iterator<Item = &'static FileFault> + use<> {
+    let long = head(widths.len()) == LONG_HEAD;
+    FILE_FAULTS.iter().filter(move |fault| long || !fault.long)
+}
+
+/// Whether a fault stands in the head, at the first step or at the last.
+pub fn at_the_ends(fault: &FileFault) -> bool {
+    [0, STEPS as u64 - 1].contains(&fault.step)
+}
+
 /// A fault of a call: the refusal that it gives where it is the first, and how it is made.
 pub type Fault<C> = ([u64; 3], Box<dyn Fn(&mut C)>);
 
 /// The faults of the file that a call counts as `file`, made through `part`.
 pub fn of_file<C: 'static>(
     file: u64,
+    widths: &[u64],
     chosen: impl Fn(&FileFault) -> bool,
     part: fn(&mut C) -> &mut Vec<u8>,
 ) -> Vec<Fault<C>> {
     let mut list: Vec<Fault<C>> = Vec::new();
-    for fault in FILE_FAULTS.iter().filter(|fault| chosen(fault)) {
+    for fault in file_faults(widths).filter(|fault| chosen(fault)) {
         let make = fault.make;
         let refusal = [fault.number, file, fault.step];
         list.push((refusal, Box::new(move |call| make(part(call)))));

@@ -2,10 +2,13 @@
 
 use crate::bench::{Bench, Outcome};
 use crate::refusals::plain;
+use reference::calls::GRID;
 use reference::examples::GRIDS;
+use reference::file::SHORT_INPUTS;
 use reference::pairs::{BOUNDS, FIGURES, SAMPLE_A};
 use reference::random::Random;
 use reference::samples;
+use reference::sizes::INPUTS;
 
 pub const SEED: u64 = 0x9a1d_5eed;
 
@@ -38,12 +41,31 @@ pub fn bounds(bench: &mut Bench) -> Outcome {
     Ok(())
 }
 
-/// One input of every n at every m; eight inputs alike; random sizes; the grids of the papers.
+/// 66^9, where 66 is L(64).
+const NINTH_POWER: u64 = 23_762_680_013_799_936;
+
+/// m, word lengths and G: the largest grids, their neighbours, and those of fewer inputs.
+const LARGEST: [(u64, &[u64], u64); 9] = [
+    (64, &[7; 10], 66 * NINTH_POWER),
+    (64, &[64; 10], 66 * NINTH_POWER),
+    (64, &[64, 7, 7, 7, 7, 7, 7, 7, 7, 6], 64 * NINTH_POWER),
+    (64, &[1, 7, 7, 7, 7, 7, 7, 7, 7, 7], 2 * NINTH_POWER),
+    (64, &[6; 10], 1 << 60),
+    (63, &[64; 10], 1 << 60),
+    (64, &[7; 9], NINTH_POWER),
+    (64, &[7; 8], NINTH_POWER / 66),
+    (1, &[64; 10], 1 << 10),
+];
+
+/// One input of every n at every m; eight to ten inputs alike; random sizes; the largest grids; the
+/// grids of the papers.
 pub fn grids(bench: &mut Bench) -> Outcome {
     for m in 1..=64 {
         for n in 1..=64 {
             bench.grid(&plain(m, &[n], 1))?;
-            bench.grid(&plain(m, &[n; 8], 1))?;
+            for d in SHORT_INPUTS..=INPUTS {
+                bench.grid(&plain(m, &vec![n; d], 1))?;
+            }
         }
     }
     let mut random = Random::new(SEED);
@@ -51,19 +73,29 @@ pub fn grids(bench: &mut Bench) -> Outcome {
         let sizes = samples::sizes(&mut random, 1 + index % 64);
         bench.grid(&plain(sizes.m, &sizes.widths, 1))?;
     }
+    for (m, widths, count) in LARGEST {
+        let answer = bench.grid(&plain(m, widths, 1))?;
+        bench.same(&answer[GRID - 1], &count, || {
+            format!("G of m {m}, n {widths:?}")
+        })?;
+    }
     let sample = bench.grid(&SAMPLE_A)?;
-    bench.same(&sample, &[0, 0, 0, 2, 4, 0, 0, 0, 0, 0, 0, 8], || {
+    bench.same(&sample, &answer(&[2, 4], 8), || {
         String::from("the grid of the sample")
     })?;
     for (m, widths, axis) in GRIDS {
         let d = widths.len();
-        let answer = bench.grid(&plain(m, widths, 1))?;
-        let mut expected = [0; 12];
-        expected[3..3 + d].fill(axis);
-        expected[11] = axis.pow(d as u32);
-        bench.same(&answer, &expected, || {
-            format!("grid of m {m}, n {widths:?}")
-        })?;
+        let found = bench.grid(&plain(m, widths, 1))?;
+        let expected = answer(&vec![axis; d], axis.pow(d as u32));
+        bench.same(&found, &expected, || format!("grid of m {m}, n {widths:?}"))?;
     }
     Ok(())
+}
+
+/// The answer with these axes and this G.
+pub fn answer(axes: &[u64], count: u64) -> [u64; GRID] {
+    let mut answer = [0; GRID];
+    answer[3..3 + axes.len()].copy_from_slice(axes);
+    answer[GRID - 1] = count;
+    answer
 }

@@ -14,7 +14,7 @@
 //! | `damage` | files cut, lengthened, and changed byte by byte |
 //! | `soak` | random files |
 //! | `grids` | bounds and grids of all sizes |
-//! | `replay` | the pairs of document 01 and the examples of document 002 |
+//! | `replay` | the pairs and examples of the documents, and the pairs of ten inputs |
 //! | `tables` | difference tables and sums; only with the feature of this name |
 //! | `sessions` | opening and continuing; only with the feature of this name |
 //! | `program` | the comparing program; only where CORKBINGO_COMPARE names it |
@@ -43,8 +43,9 @@ use std::sync::Mutex;
 /// A group of tests: its name, its seed if it draws numbers, and what it runs.
 type Group = (&'static str, Option<u64>, fn(&mut Bench) -> Outcome);
 
-const FILES: [Group; 16] = [
+const FILES: [Group; 17] = [
     ("head refused", None, refusals::head),
+    ("heads of nine and ten inputs", None, refusals::long_heads),
     ("lengths refused", None, refusals::lengths),
     ("operations refused", None, refusals::operations),
     ("arguments refused", None, refusals::arguments),
@@ -56,7 +57,11 @@ const FILES: [Group; 16] = [
     ("damaged bytes", None, damage::bytes),
     ("bounds", None, grids::bounds),
     ("grids", Some(grids::SEED), grids::grids),
-    ("pairs of document 01", None, replay::pairs),
+    (
+        "pairs of document 01 and of ten inputs",
+        None,
+        replay::pairs,
+    ),
     ("outputs of document 002", None, replay::outputs),
     (
         "equivalences of document 002",

@@ -1,7 +1,11 @@
-//! Which refusal is given where several conditions hold: every set of sixteen faults at once.
+//! Which refusal is given where several conditions hold: every set of sixteen faults at once, and of
+//! thirteen where the file has the long head.
 
 use crate::bench::{Bench, Outcome};
-use crate::faults::{Fault, STEPS, of_file, sound_file, subsets};
+use crate::faults::{
+    Fault, FileFault, LONG_WIDTHS, STEPS, WIDTHS, at_the_ends, of_file, sound_file, subsets,
+};
+use reference::samples::top;
 
 /// What a call of evaluate is given.
 struct Call {
@@ -10,23 +14,28 @@ struct Call {
     scratch: usize,
 }
 
-fn sound() -> Call {
+fn sound(widths: &[u64]) -> Call {
     Call {
-        file: sound_file(),
-        vector: vec![250, 7],
+        file: sound_file(widths),
+        vector: widths.iter().map(|&n| top(n)).collect(),
         scratch: STEPS,
     }
 }
 
-fn faults() -> Vec<Fault<Call>> {
-    let mut list = of_file(1, |_| true, |call: &mut Call| &mut call.file);
+fn faults(widths: &[u64], chosen: fn(&FileFault) -> bool) -> Vec<Fault<Call>> {
+    let mut list = of_file(1, widths, chosen, |call: &mut Call| &mut call.file);
     list.push(([12, 0, 0], Box::new(|call| call.scratch -= 1)));
-    list.push(([14, 0, 0], Box::new(|call| call.vector[1] = 8)));
+    list.push(([14, 0, 0], Box::new(|call| call.vector[1] += 1)));
     list
 }
 
 pub fn evaluate(bench: &mut Bench) -> Outcome {
-    for (call, refusal) in subsets(&faults(), sound) {
+    every(bench, &WIDTHS, |_| true)?;
+    every(bench, &LONG_WIDTHS, at_the_ends)
+}
+
+fn every(bench: &mut Bench, widths: &[u64], chosen: fn(&FileFault) -> bool) -> Outcome {
+    for (call, refusal) in subsets(&faults(widths, chosen), || sound(widths)) {
         bench.evaluates(&call.file, &call.vector, call.scratch, refusal)?;
         let of_file = if refusal[0] > 8 { [0, 0, 0] } else { refusal };
         let checked = bench.file_calls(&call.file)?;

@@ -7,7 +7,7 @@
 
 use crate::bench::Outcome;
 use crate::lent::{Fence, Lent};
-use reference::calls::NUMBERS;
+use reference::calls::{GRID, NUMBERS};
 
 unsafe extern "C" {
     fn corkbingo_check(file: *const u8, file_len: usize, out: *mut u64, out_len: usize) -> u32;
@@ -72,7 +72,7 @@ impl Product {
         self.file_call("operations", corkbingo_operations, file)
     }
 
-    pub fn grid(&mut self, file: &[u8]) -> Outcome<[u64; 12]> {
+    pub fn grid(&mut self, file: &[u8]) -> Outcome<[u64; GRID]> {
         self.file_call("grid", corkbingo_grid, file)
     }
 

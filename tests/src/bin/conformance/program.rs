@@ -6,16 +6,17 @@
 
 use crate::Group;
 use crate::bench::{Bench, Outcome};
-use crate::faults::{FILE_FAULTS, sound_file};
+use crate::faults::{LONG_WIDTHS, WIDTHS, at_the_ends, file_faults, sound_file};
 use crate::product::ask;
 use crate::refusals::plain;
 use reference::calls::NUMBERS;
 use reference::examples;
 use reference::expression::{Expression, falling, x};
-use reference::file::{STEPS, length};
+use reference::file::{SHORT_INPUTS, STEPS, length};
 use reference::pairs::{self, SAMPLE_A, SAMPLE_B};
 use reference::report::report;
 use reference::sizes::INPUTS;
+use reference::ten_inputs;
 use std::env;
 use std::fs;
 use std::os::unix::fs::{MetadataExt, PermissionsExt, symlink};
@@ -172,7 +173,7 @@ fn agrees(bench: &mut Bench, folder: &Folder, files: [&[u8]; 2]) -> Outcome {
     prints(bench, folder, files, &report(files))
 }
 
-/// Document 01's lines; all pairs of both documents; other names and folders.
+/// Document 01's lines; all pairs of both documents and of ten inputs; other names and folders.
 fn compared(bench: &mut Bench) -> Outcome {
     let folder = Folder::new("pairs")?;
     prints(bench, &folder, [&SAMPLE_A, &SAMPLE_B], SAMPLE_LINES)?;
@@ -180,16 +181,24 @@ fn compared(bench: &mut Bench) -> Outcome {
     prints(bench, &folder, [&SAMPLE_B, &SAMPLE_A], swapped)?;
     let same = "grid 2 4 = 8\nequivalent\nrun 8\n";
     prints(bench, &folder, [&SAMPLE_A, &SAMPLE_A], same)?;
-    for pair in pairs::pairs().iter().chain(&examples::pairs()) {
+    let named = [pairs::pairs(), ten_inputs::pairs(), examples::pairs()];
+    for pair in named.iter().flatten() {
         agrees(bench, &folder, pair.files.each_ref().map(Vec::as_slice))?;
     }
     let top = u64::MAX;
     let wide = (x(1) - 1).file(64, &[64]);
     let lines = format!("grid 66 = 66\ndiffer 0 : {top} 0\nrun 1\n");
     prints(bench, &folder, [&wide, &x(1).file(64, &[64])], &lines)?;
-    let largest = plain(1, &[1; INPUTS], STEPS);
-    let lines = "grid 2 2 2 2 2 2 2 2 = 256\nequivalent\nrun 256\n";
-    prints(bench, &folder, [&largest, &largest], lines)?;
+    for (d, count) in [
+        (SHORT_INPUTS, 256),
+        (SHORT_INPUTS + 1, 512),
+        (INPUTS, 1_024),
+    ] {
+        let largest = plain(1, &vec![1; d], STEPS);
+        let grid = "2 ".repeat(d);
+        let lines = format!("grid {grid}= {count}\nequivalent\nrun {count}\n");
+        prints(bench, &folder, [&largest, &largest], &lines)?;
+    }
 
     folder.write("a.dp", &SAMPLE_A)?;
     folder.write("b.dp", &SAMPLE_B)?;
@@ -209,35 +218,43 @@ fn compared(bench: &mut Bench) -> Outcome {
     Ok(())
 }
 
-/// Every number, in either file; files of the greatest length and past it.
+/// Every number, in either file, with either head; files of the greatest length and past it.
 fn refused(bench: &mut Bench) -> Outcome {
     let folder = Folder::new("refusals")?;
-    let sound = sound_file();
-    for fault in &FILE_FAULTS {
-        let mut bad = sound.clone();
-        (fault.make)(&mut bad);
-        let line = |file| format!("refused {} {file} {}\n", fault.number, fault.step);
-        prints(bench, &folder, [&bad, &sound], &line(1))?;
-        prints(bench, &folder, [&sound, &bad], &line(2))?;
-        prints(bench, &folder, [&bad, &bad], &line(1))?;
-        agrees(bench, &folder, [&bad, &SAMPLE_A])?;
+    for widths in [&WIDTHS[..], &LONG_WIDTHS] {
+        let sound = sound_file(widths);
+        for fault in file_faults(widths).filter(|fault| at_the_ends(fault)) {
+            let mut bad = sound.clone();
+            (fault.make)(&mut bad);
+            let line = |file| format!("refused {} {file} {}\n", fault.number, fault.step);
+            prints(bench, &folder, [&bad, &sound], &line(1))?;
+            prints(bench, &folder, [&sound, &bad], &line(2))?;
+            prints(bench, &folder, [&bad, &bad], &line(1))?;
+            agrees(bench, &folder, [&bad, &SAMPLE_A])?;
+        }
+        prints(bench, &folder, [&sound, &SAMPLE_A], "refused 9 0 0\n")?;
+        prints(bench, &folder, [&sound, &[]], "refused 1 2 0\n")?;
     }
-    prints(bench, &folder, [&sound, &SAMPLE_A], "refused 9 0 0\n")?;
     prints(bench, &folder, [&[], &[]], "refused 1 1 0\n")?;
-    prints(bench, &folder, [&sound, &[]], "refused 1 2 0\n")?;
-    let largest = plain(8, &[8], STEPS);
-    for extra in [1, 2, 9, 3_000, 60_000, 2_000_000] {
-        let mut longer = largest.clone();
-        longer.resize(length(STEPS) + extra, 1);
-        prints(bench, &folder, [&longer, &largest], "refused 6 1 0\n")?;
-        prints(bench, &folder, [&largest, &longer], "refused 6 2 0\n")?;
-        longer[0] = 0;
-        prints(bench, &folder, [&longer, &largest], "refused 2 1 0\n")?;
+    for (d, extras) in [
+        (1, &[1, 2, 3, 9, 3_000, 60_000, 2_000_000][..]),
+        (INPUTS, &[1, 9]),
+    ] {
+        let largest = plain(8, &vec![1; d], STEPS);
+        for extra in extras {
+            let mut longer = largest.clone();
+            longer.resize(length(d, STEPS) + extra, 1);
+            prints(bench, &folder, [&longer, &largest], "refused 6 1 0\n")?;
+            prints(bench, &folder, [&largest, &longer], "refused 6 2 0\n")?;
+            longer[0] = 0;
+            prints(bench, &folder, [&longer, &largest], "refused 2 1 0\n")?;
+        }
+        let mut last = largest.clone();
+        last[length(d, STEPS) - 1] = 1;
+        let line = format!("refused 8 2 {}\n", STEPS - 1);
+        prints(bench, &folder, [&largest, &last], &line)?;
     }
-    let mut last = largest.clone();
-    last[length(STEPS) - 1] = 1;
-    let line = format!("refused 8 2 {}\n", STEPS - 1);
-    prints(bench, &folder, [&largest, &last], &line)
+    Ok(())
 }
 
 /// Missing files, folders, and a file whose reading fails count as empty.
@@ -324,11 +341,10 @@ fn several_calls(bench: &mut Bench) -> Outcome {
     let sides = [x(1) * x(5) + x(2), x(2) + x(5) * x(1)];
     pair(16, &[16; 5], sides, more)?;
     // Falling factorials whose product first counts at the vector of their degrees: places 999,999
-    // and 1,000,000 of the 1,048,576 of eight inputs of 3 and 2 bits.
-    let widths = [3, 3, 3, 3, 2, 2, 2, 2];
+    // and 1,000,000 of the 1,048,576 of ten inputs of 2 bits.
     for (degrees, run) in [
-        ([7, 5, 0, 2, 0, 3, 3, 3], 1_000_000),
-        ([7, 5, 0, 2, 1, 0, 0, 0], 1_000_001),
+        ([3, 3, 1, 0, 0, 2, 0, 3, 3, 3], 1_000_000),
+        ([3, 3, 1, 0, 0, 2, 1, 0, 0, 0], 1_000_001),
     ] {
         let factor = |(index, &k): (usize, &i32)| falling(x(index + 1), k);
         let factors = degrees.iter().enumerate().filter(|(_, k)| **k > 0);
@@ -339,9 +355,9 @@ fn several_calls(bench: &mut Bench) -> Outcome {
             .iter()
             .product();
         let vector = degrees.map(|k| k.to_string()).join(" ");
-        let grid = "grid 8 8 8 8 4 4 4 4 = 1048576";
+        let grid = "grid 4 4 4 4 4 4 4 4 4 4 = 1048576";
         let lines = format!("{grid}\ndiffer {vector} : {factorials} 0\nrun {run}\n");
-        pair(64, &widths, [product, 0.into()], &lines)?;
+        pair(64, &[2; 10], [product, 0.into()], &lines)?;
     }
     Ok(())
 }
@@ -431,13 +447,18 @@ fn reads(bench: &mut Bench) -> Outcome {
     bench.same(&done(compiled.status())?.success(), &true, || {
         String::from("gcc compiles reads.c")
     })?;
-    let largest = plain(8, &[8], STEPS);
-    let mut longer = largest.clone();
-    longer.push(0);
     folder.write("first.dp", &SAMPLE_A)?;
     folder.write("second.dp", &SAMPLE_B)?;
-    folder.write("largest.dp", &largest)?;
-    folder.write("longer.dp", &longer)?;
+    // The largest files with the short head and with the long one, and files one byte longer.
+    for (name, longer_name, widths) in [
+        ("largest.dp", "longer.dp", &[8; 1][..]),
+        ("largest-ten.dp", "longer-ten.dp", &[1; 10]),
+    ] {
+        let mut file = plain(8, widths, STEPS);
+        folder.write(name, &file)?;
+        file.push(0);
+        folder.write(longer_name, &file)?;
+    }
     let command = |names: [&str; 2], variables: &[(&str, &str)]| {
         let mut command = Command::new(linked()?);
         command.args(names).current_dir(&folder.0);
@@ -448,12 +469,16 @@ fn reads(bench: &mut Bench) -> Outcome {
     };
     let samples = ["first.dp", "second.dp"];
     let all = "grid 10 = 10\nequivalent\nrun 10\n";
-    for most in ["1", "7", "4096", "9228"] {
+    let all_ten = "grid 2 2 2 2 2 2 2 2 2 2 = 1024\nequivalent\nrun 1024\n";
+    for most in ["1", "7", "4096", "9228", "9230"] {
         for (names, lines) in [
             (samples, SAMPLE_LINES),
             (["largest.dp", "largest.dp"], all),
             (["longer.dp", "largest.dp"], "refused 6 1 0\n"),
             (["largest.dp", "longer.dp"], "refused 6 2 0\n"),
+            (["largest-ten.dp", "largest-ten.dp"], all_ten),
+            (["longer-ten.dp", "largest-ten.dp"], "refused 6 1 0\n"),
+            (["largest-ten.dp", "longer-ten.dp"], "refused 6 2 0\n"),
         ] {
             let run = command(names, &[("READ_MOST", most)])?;
             bench.same(

@@ -2,8 +2,14 @@
 //! step that document 01 gives it; and the values next to it, which are accepted.
 
 use crate::bench::{Bench, Outcome};
-use reference::file::{Datapath, HEAD, STEPS, Step, length, write};
+use reference::file::{
+    Datapath, LONG_HEAD, SHORT_HEAD, SHORT_INPUTS, STEPS, Step, head as head_of, length, write,
+};
 use reference::sizes::{INPUTS, Sizes};
+use reference::ten_inputs::{self, SAMPLE_NINE, SAMPLE_TEN, ZERO_TEN};
+
+/// Counts of inputs with either head: few, the most of the short one, and those of the long one.
+const INPUT_COUNTS: [usize; 4] = [2, SHORT_INPUTS, SHORT_INPUTS + 1, INPUTS];
 
 /// A sound file of `count` steps, all of them inputs, and of any sizes.
 pub fn plain(m: u64, widths: &[u64], count: usize) -> Vec<u8> {
@@ -18,9 +24,10 @@ pub fn plain(m: u64, widths: &[u64], count: usize) -> Vec<u8> {
 /// The file with this operation and this argument at the step.
 fn with_step(file: &[u8], step: usize, operation: u8, argument: u64) -> Vec<u8> {
     let mut bytes = file.to_vec();
-    let count = (bytes.len() - HEAD) / 9;
-    bytes[HEAD + step] = operation;
-    let start = HEAD + count + 8 * step;
+    let head = head_of(usize::from(file[1]));
+    let count = (bytes.len() - head) / 9;
+    bytes[head + step] = operation;
+    let start = head + count + 8 * step;
     bytes[start..start + 8].copy_from_slice(&argument.to_le_bytes());
     bytes
 }
@@ -31,9 +38,19 @@ fn with_byte(file: &[u8], place: usize, byte: u8) -> Vec<u8> {
     bytes
 }
 
-/// The smallest file and the largest one.
-fn ends() -> [Vec<u8>; 2] {
-    [plain(1, &[1], 1), plain(64, &[64; INPUTS], STEPS)]
+/// Each of these counts of steps with each count of inputs.
+fn counts<const LENGTH: usize>(steps: [usize; LENGTH]) -> impl Iterator<Item = (usize, usize)> {
+    let with = |count| INPUT_COUNTS.into_iter().map(move |d| (count, d));
+    steps.into_iter().flat_map(with)
+}
+
+/// The smallest file, and the largest ones with the short head and with the long one.
+fn ends() -> [Vec<u8>; 3] {
+    [
+        plain(1, &[1], 1),
+        plain(64, &[64; SHORT_INPUTS], STEPS),
+        plain(64, &[64; INPUTS], STEPS),
+    ]
 }
 
 /// Numbers 2 to 5, and the sizes at both ends of their ranges.
@@ -43,7 +60,7 @@ pub fn head(bench: &mut Bench) -> Outcome {
         for m in [0, 65, 128, 255] {
             bench.refuses(&with_byte(&file, 0, m), [2, 1, 0])?;
         }
-        for d in [0, 9, 64, 255] {
+        for d in [0, INPUTS as u8 + 1, 64, 255] {
             bench.refuses(&with_byte(&file, 1, d), [3, 1, 0])?;
         }
         for count in [0u16, 1025, 1280, 0x8000, 0x8001, 0xffff] {
@@ -54,7 +71,7 @@ pub fn head(bench: &mut Bench) -> Outcome {
     }
     for d in 1..=INPUTS {
         let file = plain(7, &vec![64; d], 3);
-        for input in 0..INPUTS {
+        for input in 0..head_of(d) - 4 {
             let wrong: &[u8] = if input < d {
                 &[0, 65, 255]
             } else {
@@ -71,28 +88,59 @@ pub fn head(bench: &mut Bench) -> Outcome {
     (1..=64).try_for_each(|m| bench.accepts(&plain(m, &[3], 2)))
 }
 
+/// Files of nine, ten and eleven inputs, byte by byte: which condition comes first, and where the
+/// operations stand in a sound one.
+pub fn long_heads(bench: &mut Bench) -> Outcome {
+    for (name, file, [number, step]) in ten_inputs::refused() {
+        let refused = bench.refuses(&file, [number, 1, step]);
+        refused.map_err(|what| format!("{name}: {what}"))?;
+    }
+    let sound: [(&[u8], &[u8]); 3] = [
+        (&SAMPLE_NINE, &[1, 1, 5]),
+        (&SAMPLE_TEN, &[1, 1, 5]),
+        (&ZERO_TEN, &[2]),
+    ];
+    for (file, operations) in sound {
+        bench.accepts(file)?;
+        let [start, length] = bench.product.operations(file)?.map(|word| word as usize);
+        bench.same(&start, &14, || String::from("the start of the operations"))?;
+        bench.same(&file[start..][..length], operations, || {
+            String::from("the operations")
+        })?;
+    }
+    Ok(())
+}
+
 /// Numbers 1 and 6, at every count of steps.
 pub fn lengths(bench: &mut Bench) -> Outcome {
-    let largest = plain(64, &[64; INPUTS], STEPS);
-    for short in 0..HEAD {
-        bench.refuses(&largest[..short], [1, 1, 0])?;
+    for short in 0..SHORT_HEAD {
         bench.refuses(&vec![0; short], [1, 1, 0])?;
     }
-    bench.refuses(&largest[..HEAD], [6, 1, 0])?;
+    for (d, head) in [(SHORT_INPUTS, SHORT_HEAD), (INPUTS, LONG_HEAD)] {
+        let largest = plain(64, &vec![64; d], STEPS);
+        for short in 0..head {
+            bench.refuses(&largest[..short], [1, 1, 0])?;
+        }
+        bench.refuses(&largest[..head], [6, 1, 0])?;
+    }
     for count in 1..=STEPS {
-        let mut file = plain(9, &[5, 6], count);
-        bench.accepts(&file)?;
-        file.push(1);
-        bench.refuses(&file, [6, 1, 0])?;
-        bench.refuses(&file[..length(count) - 1], [6, 1, 0])?;
+        for d in [2, INPUT_COUNTS[1 + count % 3]] {
+            let mut file = plain(9, &vec![5; d], count);
+            bench.accepts(&file)?;
+            file.extend([1, 1]);
+            let right = length(d, count);
+            for wrong in [right - 2, right - 1, right + 1, right + 2] {
+                bench.refuses(&file[..wrong], [6, 1, 0])?;
+            }
+        }
     }
     Ok(())
 }
 
 /// Number 7 at every step, and each sound operation.
 pub fn operations(bench: &mut Bench) -> Outcome {
-    for count in [1, 2, 9, STEPS] {
-        let file = plain(8, &[8, 8], count);
+    for (count, d) in counts([1, 2, 9]).chain([(STEPS, 2), (STEPS, INPUTS)]) {
+        let file = plain(8, &vec![8; d], count);
         for step in 0..count {
             let refusal = [7, 1, step as u64];
             bench.refuses(&with_step(&file, step, 0, 0), refusal)?;
@@ -115,11 +163,11 @@ pub fn operations(bench: &mut Bench) -> Outcome {
 
 /// Number 8 at the first and at the last step, by each part of each rule.
 pub fn arguments(bench: &mut Bench) -> Outcome {
-    for count in [1, 2, 300, STEPS] {
-        let file = plain(8, &[8, 8], count);
+    for (count, d) in counts([1, 2, 300, STEPS]) {
+        let file = plain(8, &vec![8; d], count);
         for step in [0, count - 1] {
             let own = step as u64;
-            let mut wrong = vec![(1, 2), (1, 255), (1, 256), (2, 256), (2, u64::MAX)];
+            let mut wrong = vec![(1, d as u64), (1, 255), (1, 256), (2, 256), (2, u64::MAX)];
             for bit in [8, 16, 32, 63] {
                 wrong.extend([(1, 1 << bit), (2, 1 << bit)]);
             }
@@ -151,14 +199,14 @@ pub fn arguments(bench: &mut Bench) -> Outcome {
 
 /// Arguments at the ends of what the rules allow.
 pub fn limits(bench: &mut Bench) -> Outcome {
-    for count in [2, 300, STEPS] {
-        let file = plain(8, &[8; INPUTS], count);
+    for (count, d) in counts([2, 300, STEPS]) {
+        let file = plain(8, &vec![8; d], count);
         let before = count as u64 - 2;
         for operation in 3..=5 {
             for argument in [0, before, before << 16, before | before << 16] {
                 let file = with_step(&file, count - 1, operation, argument);
                 bench.accepts(&file)?;
-                bench.output(&file, &[255; INPUTS])?;
+                bench.output(&file, &vec![255; d])?;
             }
         }
     }
@@ -183,13 +231,13 @@ pub fn limits(bench: &mut Bench) -> Outcome {
 
 /// Number 12, and scratch slices of just the right length and longer.
 pub fn scratch(bench: &mut Bench) -> Outcome {
-    for count in [1, 2, 300, STEPS - 1, STEPS] {
-        let file = plain(8, &[8], count);
+    for (count, d) in counts([1, 2, 300, STEPS - 1, STEPS]) {
+        let file = plain(8, &vec![8; d], count);
         for short in [0, count / 2, count - 1] {
-            bench.evaluates(&file, &[9], short, [12, 0, 0])?;
+            bench.evaluates(&file, &vec![9; d], short, [12, 0, 0])?;
         }
         for enough in [count, count + 1, count + 3, 2 * count] {
-            bench.evaluates(&file, &[9], enough, [0, 0, 0])?;
+            bench.evaluates(&file, &vec![9; d], enough, [0, 0, 0])?;
         }
     }
     Ok(())

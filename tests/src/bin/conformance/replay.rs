@@ -1,6 +1,8 @@
-//! The pairs of document 01 and the examples of document 002, replayed with the product's outputs.
+//! The pairs of document 01, those of eight to ten inputs, and the examples of document 002, replayed
+//! with the product's outputs.
 
 use crate::bench::{Bench, Outcome};
+use reference::calls::GRID;
 use reference::compare::{Comparison, Verdict, compare, compare_paths};
 use reference::examples;
 use reference::file::read;
@@ -8,6 +10,7 @@ use reference::pairs::{self, Pair};
 use reference::random::Random;
 use reference::samples;
 use reference::sizes::Sizes;
+use reference::ten_inputs;
 
 pub const SEED: u64 = 0x002_5eed;
 
@@ -18,7 +21,7 @@ const EXHAUSTIVE_BITS: u64 = 16;
 const SAMPLES: usize = 1_000;
 
 pub fn pairs(bench: &mut Bench) -> Outcome {
-    for pair in pairs::pairs() {
+    for pair in pairs::pairs().into_iter().chain(ten_inputs::pairs()) {
         let sizes = replay(bench, &pair)?;
         exhaust(bench, &pair, &sizes)?;
     }
@@ -74,7 +77,7 @@ fn replay(bench: &mut Bench, pair: &Pair) -> Outcome<Sizes> {
         format!("{name} by the reference")
     })?;
     if found.verdict == Verdict::Equivalent {
-        bench.same(&found.run, &grid[11], || format!("G of {name}"))?;
+        bench.same(&found.run, &grid[GRID - 1], || format!("G of {name}"))?;
     }
     Ok(left.sizes)
 }

@@ -2,10 +2,10 @@
 //! scratch slices.
 
 use crate::bench::{Bench, Outcome};
-use reference::file::{Datapath, STEPS, read};
+use reference::file::{Datapath, SHORT_HEAD, STEPS, read};
 use reference::random::Random;
 use reference::samples::{self, Shape, top};
-use reference::sizes::Sizes;
+use reference::sizes::{INPUTS, Sizes};
 use std::collections::BTreeMap;
 
 pub const SEED: u64 = 0xc02b_1960_5eed;
@@ -15,12 +15,15 @@ const FILES: u64 = 100_000;
 /// What has occurred; `judge` asks that everything did, and often enough.
 #[derive(Default)]
 struct Seen {
-    /// Accepted files by m, and by count of steps.
+    /// Accepted files by m, by d, and by count of steps.
     accepted_m: BTreeMap<u64, u64>,
+    accepted_d: BTreeMap<usize, u64>,
     accepted_steps: BTreeMap<usize, u64>,
     /// Answers of check and of evaluate, by number.
     checked: BTreeMap<u64, u64>,
     evaluated: BTreeMap<u64, u64>,
+    /// Files that 1 refuses though they are as long as the short head.
+    under_long_head: u64,
     /// Outputs that exact values confirm, and outputs other than 0.
     exact: u64,
     nonzero: u64,
@@ -33,6 +36,7 @@ pub fn files(bench: &mut Bench) -> Outcome {
         let file = file(&mut random, 1 + index % 64);
         let refusal = bench.file_calls(&file)?;
         *seen.checked.entry(refusal[0]).or_default() += 1;
+        seen.under_long_head += u64::from(refusal[0] == 1 && file.len() >= SHORT_HEAD);
         match read(&file, 1) {
             Ok(path) => accepted(bench, &mut random, &mut seen, &file, &path)?,
             Err(_) => refused(bench, &mut random, &mut seen, &file)?,
@@ -86,7 +90,7 @@ fn vectors(random: &mut Random, sizes: &Sizes) -> Vec<Vec<u64>> {
         past[input] += 1;
         list.push(past);
     }
-    let length = random.pick(&[0, d - 1, d + 1, 9, 20]);
+    let length = random.pick(&[0, d - 1, d + 1, INPUTS + 1, 20]);
     list.push(vec![0; length]);
     list
 }
@@ -110,6 +114,7 @@ fn accepted(
 ) -> Outcome {
     let count = path.steps.len();
     *seen.accepted_m.entry(path.sizes.m).or_default() += 1;
+    *seen.accepted_d.entry(path.sizes.d()).or_default() += 1;
     *seen.accepted_steps.entry(count).or_default() += 1;
     let mut list = vectors(random, &path.sizes);
     while count > 200 && list.len() > 3 {
@@ -145,6 +150,10 @@ impl Seen {
             let what = format!("accepted files, m {m}");
             often(&what, self.accepted_m.get(&m), 500)?;
         }
+        for d in 1..=INPUTS {
+            let what = format!("accepted files, d {d}");
+            often(&what, self.accepted_d.get(&d), 500)?;
+        }
         for count in [1, 2, STEPS] {
             let what = format!("accepted files, {count} steps");
             often(&what, self.accepted_steps.get(&count), 500)?;
@@ -157,6 +166,8 @@ impl Seen {
             let what = format!("answers {number} of evaluate");
             often(&what, self.evaluated.get(&number), 300)?;
         }
+        let under = "files under the long head";
+        often(under, Some(&self.under_long_head), 50)?;
         let outputs = self.evaluated.get(&0).copied().unwrap_or(0);
         often("exact outputs", Some(&self.exact), outputs * 8 / 10)?;
         often(

@@ -21,8 +21,11 @@ const WORDS: [u64; 9] = [1, 2, 8, 16, 31, 32, 33, 63, 64];
 const COUNTS: [usize; 12] = [1, 2, 63, 64, 65, 200, 256, 257, 512, 513, 1023, 1024];
 
 /// Word lengths of the inputs; the grid depends on m too.
-const WIDTHS: [&[u64]; 9] = [
+const WIDTHS: [&[u64]; 12] = [
     &[1; 6],
+    &[1; 8],
+    &[1; 9],
+    &[1; 10],
     &[64, 1],
     &[1, 1, 1, 1, 1, 2],
     &[5, 2],
@@ -33,18 +36,30 @@ const WIDTHS: [&[u64]; 9] = [
     &[1, 1, 1, 1, 1, 3],
 ];
 
-/// The most places times steps of a pair.
+/// Word lengths for steps along a line.
+const LINES: [&[u64]; 7] = [
+    &[1; 6],
+    &[1; 6],
+    &[1, 1, 1, 1, 1, 2],
+    &[1, 1, 1, 1, 1, 2],
+    &[1; 8],
+    &[1; 9],
+    &[1; 10],
+];
+
+/// The most places times steps of a pair, and of one with steps along a line.
 const WORK: u64 = 150_000;
+const LINES_WORK: u64 = 300_000;
 
 /// Calls of a pair.
 const CALLS: usize = 24;
 
-/// Sizes with this m whose grid is not too large for so many steps.
-fn sizes(random: &mut Random, m: u64, steps: usize) -> Sizes {
+/// Sizes with this m and some of these word lengths, whose grid has at most so many vectors.
+fn sizes(random: &mut Random, m: u64, list: &[&[u64]], most: u64) -> Sizes {
     loop {
-        let widths = random.pick(&WIDTHS).to_vec();
+        let widths = random.pick(list).to_vec();
         let sizes = Sizes { m, widths };
-        if size(&axes(&sizes)) * steps as u64 <= WORK {
+        if size(&axes(&sizes)) <= most {
             return sizes;
         }
     }
@@ -140,7 +155,8 @@ pub fn counts(bench: &mut Bench) -> Outcome {
                 if long && (index + row + column) % 3 > 0 {
                     continue;
                 }
-                let sizes = sizes(&mut random, m, first + second);
+                let most = WORK / (first + second) as u64;
+                let sizes = sizes(&mut random, m, &WIDTHS, most);
                 let survey = Survey::new(pair(&mut random, &sizes, [first, second]));
                 calls(bench, &mut random, &mut runs, &survey)?;
             }
@@ -158,8 +174,8 @@ pub fn lines(bench: &mut Bench) -> Outcome {
                 if (index + row + column) % 3 > 0 {
                     continue;
                 }
-                let widths = random.pick(&[&[1; 6][..], &[1, 1, 1, 1, 1, 2]]).to_vec();
-                let sizes = Sizes { m, widths };
+                let most = LINES_WORK / (first + second) as u64;
+                let sizes = sizes(&mut random, m, &LINES, most);
                 let survey = Survey::new(hidden(&mut random, &sizes, [first, second]));
                 calls(bench, &mut random, &mut runs, &survey)?;
                 let scratch = scratch(first.max(second));
@@ -190,14 +206,15 @@ fn calls(bench: &mut Bench, random: &mut Random, runs: &mut Runs, survey: &Surve
 pub fn scratches(bench: &mut Bench) -> Outcome {
     let mut random = Random::new(SCRATCH_SEED);
     let mut runs = Runs::default();
-    for m in [8, 32, 33] {
-        let widths = vec![1, 1, 1, 1, 1, 1];
-        let sizes = Sizes { m, widths };
+    for (m, d) in [(8, 8), (32, 9), (33, 10)] {
         for first in COUNTS {
             for second in COUNTS {
                 if first + second > 300 && first != second && first.min(second) != 64 {
                     continue;
                 }
+                let d = if first + second > 130 { 6 } else { d };
+                let widths = vec![1; d];
+                let sizes = Sizes { m, widths };
                 let survey = Survey::new(pair(&mut random, &sizes, [first, second]));
                 longer(bench, &mut runs, &survey)?;
             }

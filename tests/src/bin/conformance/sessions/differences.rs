@@ -20,44 +20,51 @@ pub const SEVERAL_SEED: u64 = 0xd1ff_e2e4_5eef;
 
 const STEPS: usize = 5;
 
-/// m and word lengths of the grids on which each place is the first difference of a pair.
-const GRIDS: [(u64, &[u64]); 10] = [
-    (33, &[5]),
-    (1, &[1; 8]),
-    (64, &[64, 1]),
-    (31, &[2, 2, 2, 1]),
-    (16, &[2, 2, 2, 2]),
-    (4, &[4, 4, 4]),
-    (32, &[3, 2, 3]),
-    (33, &[1, 1, 1, 1, 1, 3]),
-    (8, &[1, 1, 1, 1, 1, 8]),
-    (16, &[1, 1, 1, 1, 1, 16]),
+/// m and word lengths of the grids on which each place is the first difference of a pair; of the
+/// largest, places so far apart, and the last.
+const GRIDS: [(u64, &[u64], usize); 12] = [
+    (33, &[5], 1),
+    (1, &[1; 8], 1),
+    (1, &[1; 9], 27),
+    (8, &[1; 10], 27),
+    (64, &[64, 1], 1),
+    (31, &[2, 2, 2, 1], 1),
+    (16, &[2, 2, 2, 2], 1),
+    (4, &[4, 4, 4], 1),
+    (32, &[3, 2, 3], 1),
+    (33, &[1, 1, 1, 1, 1, 3], 1),
+    (8, &[1, 1, 1, 1, 1, 8], 1),
+    (16, &[1, 1, 1, 1, 1, 16], 1),
 ];
 
 /// Large grids, of which the lines before a difference are run.
 const LARGE: [(u64, &[u64]); 8] = [
-    (64, &[64; 8]),
-    (64, &[64, 64, 64, 64, 64, 64, 64, 1]),
+    (64, &[64; 10]),
+    (64, &[64, 64, 64, 64, 64, 64, 64, 64, 1]),
     (63, &[64, 7, 64, 3, 64, 2]),
     (33, &[32; 6]),
     (32, &[32; 8]),
-    (16, &[16; 8]),
+    (16, &[16; 9]),
     (8, &[8; 8]),
-    (2, &[2; 8]),
+    (2, &[2; 10]),
 ];
 
 /// So many lines, and so many pairs on each large grid.
 const LINES: u64 = 20;
 const PAIRS: usize = 6;
 
-/// Grids on which a pair can differ at any places and no others.
-const SPOTTED: [(u64, &[u64]); 6] = [
-    (1, &[1; 7]),
-    (64, &[5, 1]),
-    (32, &[2, 2, 2, 2]),
-    (33, &[1, 1, 1, 1, 1, 3]),
-    (8, &[1, 1, 1, 1, 1, 8]),
-    (16, &[1, 1, 1, 1, 1, 16]),
+/// Grids on which a pair can differ at any places and no others, and of how many pairs of lanes one
+/// is chosen.
+const SPOTTED: [(u64, &[u64], u64); 9] = [
+    (1, &[1; 7], 1),
+    (1, &[1; 8], 8),
+    (1, &[1; 9], 8),
+    (8, &[1; 10], 8),
+    (64, &[5, 1], 1),
+    (32, &[2, 2, 2, 2], 1),
+    (33, &[1, 1, 1, 1, 1, 3], 1),
+    (8, &[1, 1, 1, 1, 1, 8], 1),
+    (16, &[1, 1, 1, 1, 1, 16], 1),
 ];
 
 fn sizes(m: u64, widths: &[u64]) -> Sizes {
@@ -85,10 +92,11 @@ fn either(random: &mut Random, path: &Datapath, other: Datapath) -> [Datapath; 2
 pub fn places(bench: &mut Bench) -> Outcome {
     let mut random = Random::new(PLACES_SEED);
     let mut runs = Runs::default();
-    for (m, widths) in GRIDS {
+    for (m, widths, apart) in GRIDS {
         let sizes = sizes(m, widths);
         let axes = axes(&sizes);
-        for place in 0..size(&axes) {
+        let last = size(&axes) - 1;
+        for place in (0..last).step_by(apart).chain([last]) {
             let path = base(&mut random, &sizes);
             let vector = vector_at(&axes, place).expect("a place below G");
             let other = match (alone(&sizes, &vector), counts(m, &vector)) {
@@ -216,10 +224,11 @@ fn in_parts(
 pub fn several(bench: &mut Bench) -> Outcome {
     let mut random = Random::new(SEVERAL_SEED);
     let mut runs = Runs::default();
-    for (m, widths) in SPOTTED {
+    for (m, widths, apart) in SPOTTED {
         let sizes = sizes(m, widths);
         for first in 0..LANES {
-            for second in first + 1..LANES {
+            let chosen = |second: &u64| (first + second) % apart == 0;
+            for second in (first + 1..LANES).filter(chosen) {
                 let path = base(&mut random, &sizes);
                 lanes(bench, &mut random, &mut runs, &path, [first, second])?;
             }

@@ -1,9 +1,10 @@
-//! The largest grid: as many inputs as a file may have, and of each as many values as the largest
-//! bound. It is opened, and continued from its last places.
+//! The largest grids of eight to ten inputs, each with as many values as the largest bound. They are
+//! opened, and continued from their last places.
 
 use super::Files;
 use super::bench::scratch;
 use crate::bench::{Bench, Outcome};
+use crate::grids::answer;
 use reference::expression::{Expression, x};
 use reference::sessions::{DIFFERS, EQUIVALENT, KIND, MARK, MARKS, Mark, POSITION, RUN, SPENT};
 use reference::sizes::INPUTS;
@@ -15,22 +16,19 @@ const AXIS: u64 = 66;
 const LAST: u64 = 2 * AXIS + 5;
 
 pub fn sessions(bench: &mut Bench) -> Outcome {
-    let count = AXIS.pow(INPUTS as u32);
     // The least word length with so many values, and the greatest.
-    for width in [7, 64] {
-        let file = |block: Expression| block.file(64, &[width; INPUTS]);
-        let sum = || (2..=INPUTS).fold(x(1), |sum, input| sum + x(input));
+    for (d, width) in [(8, 7), (9, 64), (10, 64)] {
+        let count = AXIS.pow(d as u32);
+        let file = |block: Expression| block.file(64, &vec![width; d]);
+        let sum = || (2..=d).fold(x(1), |sum, input| sum + x(input));
         let square = || sum() * sum();
         let [block, same, other] = [square(), square() + 0, square() + 1].map(file);
-        let mut grid = [AXIS; 4 + INPUTS];
-        grid[..3].fill(0);
-        grid[3 + INPUTS] = count;
         let found = bench.grid(&block)?;
-        bench.same(&found, &grid, || {
-            format!("the grid of word lengths {width}")
+        bench.same(&found, &answer(&vec![AXIS; d], count), || {
+            format!("the grid of {d} word lengths {width}")
         })?;
         equivalent(bench, [&block, &same], count)?;
-        differing(bench, [&block, &other], count)?;
+        differing(bench, [&block, &other], d)?;
         misplaced(bench, [&block, &same], count)?;
     }
     Ok(())
@@ -62,17 +60,19 @@ fn equivalent(bench: &mut Bench, files: Files, count: u64) -> Outcome {
 
 /// A pair that differs everywhere: the vector shown is that of the position, whose last two entries
 /// are the digits of its distance from the end.
-fn differing(bench: &mut Bench, files: Files, count: u64) -> Outcome {
+fn differing(bench: &mut Bench, files: Files, d: usize) -> Outcome {
     let mut session = bench.start(files)?;
+    let count = AXIS.pow(d as u32);
     for left in 1..=LAST {
         session[POSITION] = count - left;
         let done = bench.answered(files, &session, u64::MAX, &scratch(64))?;
         let what = || format!("{left} vectors before the end");
         bench.same(&done.answer[KIND..=RUN], &[DIFFERS, 1], what)?;
-        let mut vector = [AXIS - 1; INPUTS];
-        vector[INPUTS - 2] -= (left - 1) / AXIS;
-        vector[INPUTS - 1] -= (left - 1) % AXIS;
-        bench.same(&done.answer[RUN + 1..][..INPUTS], &vector, what)?;
+        let mut vector = vec![AXIS - 1; d];
+        vector[d - 2] -= (left - 1) / AXIS;
+        vector[d - 1] -= (left - 1) % AXIS;
+        vector.resize(INPUTS, 0);
+        bench.same(&done.answer[RUN + 1..][..INPUTS], &vector[..], what)?;
         let after = [count - left + 1, Mark::Differ as u64];
         bench.same(&done.session[POSITION..=MARK], &after, what)?;
     }

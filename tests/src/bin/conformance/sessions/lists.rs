@@ -12,8 +12,8 @@ use reference::samples;
 use reference::sessions::{
     self, ANSWER, DIFFERS, EQUIVALENT, KIND, MARK, POSITION, REFUSED, RUN, SESSION, larger,
 };
-use reference::sizes::Sizes;
-use reference::twins::{self, KINDS, Kind, small_sizes, twin};
+use reference::sizes::{INPUTS, Sizes};
+use reference::twins::{self, KINDS, Kind, small_sizes, twin, varied_sizes};
 use std::collections::BTreeMap;
 
 pub const SEED: u64 = 0x0115_75ee_d000;
@@ -23,21 +23,25 @@ const LISTS: u64 = 3_000;
 /// The most calls of a list.
 const CALLS: u64 = 16;
 
-/// The most vectors on the grid of a list.
+/// The most vectors on the grid of a list, but where there are eight inputs or more; and how many of
+/// a hundred lists are such.
 const GRID: u64 = 260;
+const MANY_INPUTS: u64 = 6;
 
 /// Pairs whose inputs have so many bits together are run at every full-width vector.
-const EXHAUSTIVE_BITS: u64 = 9;
+const EXHAUSTIVE_BITS: u64 = 10;
 
 /// Wider equivalent pairs are run at so many random full-width vectors.
 const SAMPLES: usize = 20;
 
-/// How often each answer has occurred, by number and by kind, and each kind of pair, by verdict.
+/// How often each answer has occurred, by number and by kind; each kind of pair, by verdict; and each
+/// count of inputs, by verdict.
 #[derive(Default)]
 struct Seen {
     numbers: BTreeMap<u64, u64>,
     kinds: BTreeMap<u64, u64>,
     verdicts: BTreeMap<(Kind, u64), u64>,
+    inputs: BTreeMap<(usize, u64), u64>,
     unfinished: u64,
 }
 
@@ -62,7 +66,7 @@ pub fn lists(bench: &mut Bench) -> Outcome {
     let mut seen = Seen::default();
     for index in 0..LISTS {
         let kind = KINDS[index as usize % KINDS.len()];
-        let sizes = small_sizes(&mut random, 1 + index % 64, GRID);
+        let sizes = varied_sizes(&mut random, 1 + index % 64, GRID, MANY_INPUTS);
         let first = twins::path(&mut random, &sizes);
         let paths = [twin(&mut random, &first, kind), first];
         let files = paths.each_ref().map(write);
@@ -88,6 +92,7 @@ pub fn lists(bench: &mut Bench) -> Outcome {
             None => seen.unfinished += 1,
             Some(answer) => {
                 *seen.verdicts.entry((kind, answer[KIND])).or_default() += 1;
+                *seen.inputs.entry((sizes.d(), answer[KIND])).or_default() += 1;
                 list.full_width(bench, &mut random)?;
             }
         }
@@ -287,6 +292,12 @@ impl Seen {
             };
             let found = self.verdicts.get(&(kind, verdict));
             often(format!("verdicts {verdict} on {kind:?}"), found, 100)?;
+        }
+        for d in 1..=INPUTS {
+            for verdict in [EQUIVALENT, DIFFERS] {
+                let found = self.inputs.get(&(d, verdict));
+                often(format!("verdicts {verdict} of {d} inputs"), found, 10)?;
+            }
         }
         often(String::from("open lists"), Some(&self.unfinished), 300)
     }

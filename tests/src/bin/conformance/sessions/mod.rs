@@ -6,9 +6,9 @@
 //! | `bench` | one call compared with the reference |
 //! | `refusals` | each refusal, and which comes first where several conditions hold |
 //! | `positions` | every position, mark and field of a session |
-//! | `replay` | the pairs of document 01 and the examples of document 002, by budgets |
+//! | `replay` | the pairs of the documents and of ten inputs, by budgets |
 //! | `large` | large grids, at their ends and between |
-//! | `largest` | the largest grid of all, from its last places |
+//! | `largest` | the largest grids of eight to ten inputs, from their last places |
 //! | `lists` | random lists of calls, held against demand 3 |
 //! | `soak` | random sessions with random files |
 //! | `runs` | pairs whose outputs are worked out once, from any place |
@@ -41,7 +41,11 @@ pub const GROUPS: [Group; 21] = [
     ("openings refused", None, refusals::opening),
     ("precedence in open and continue", None, refusals::subsets),
     ("sizes of the two files", None, refusals::sizes),
-    ("pairs of document 01 by budgets", None, replay::pairs),
+    (
+        "pairs of document 01 and of ten inputs by budgets",
+        None,
+        replay::pairs,
+    ),
     (
         "equivalences of document 002 by budgets",
         None,
@@ -54,7 +58,7 @@ pub const GROUPS: [Group; 21] = [
         Some(large::SEED),
         large::sessions,
     ),
-    ("the largest grid", None, largest::sessions),
+    ("the largest grids", None, largest::sessions),
     ("random lists of calls", Some(lists::SEED), lists::lists),
     ("random sessions", Some(soak::SEED), soak::sessions),
     ("spans of equivalent pairs", Some(spans::SEED), spans::spans),

@@ -1,18 +1,25 @@
 //! Every position and mark on small grids, and every field of a session.
 
+use super::Files;
 use super::bench::scratch;
 use crate::bench::{Bench, Outcome};
+use crate::refusals::plain;
 use reference::file::{Datapath, Step, read, write};
 use reference::grid::{axes, size, vectors};
 use reference::pairs::{SAMPLE_A, SAMPLE_B, pairs};
 use reference::sessions::{MARK, MARKS, POSITION, REFUSED, SESSION};
 use reference::sizes::Sizes;
+use reference::ten_inputs::{self, SAMPLE_NINE, SAMPLE_TEN, ZERO_TEN};
 use reference::twins::late;
+
+/// Grids with more vectors are run from a few positions near their ends.
+const EVERY: u64 = 100;
 
 /// Positions on the grid, at its end and far past it.
 fn positions(count: u64) -> Vec<u64> {
     let far = [1 << 32, 1 << 63, u64::MAX - count, u64::MAX - 1, u64::MAX];
-    (0..=count + 2).chain(far).collect()
+    let chosen = |&position: &u64| count <= EVERY || position < 2 || position > count - 3;
+    (0..=count + 2).filter(chosen).chain(far).collect()
 }
 
 /// Budgets around the end of the grid, and such that position plus budget passes 2^64.
@@ -26,9 +33,11 @@ fn budgets(count: u64, position: u64) -> Vec<u64> {
     list
 }
 
-/// The pairs of document 01, and one pair that first differs at each place in turn.
+/// The pairs of document 01, those of eight to ten inputs, and one pair that first differs at each
+/// place in turn.
 fn files() -> Vec<[Vec<u8>; 2]> {
-    let mut list: Vec<[Vec<u8>; 2]> = pairs().into_iter().map(|pair| pair.files).collect();
+    let named = pairs().into_iter().chain(ten_inputs::pairs());
+    let mut list: Vec<[Vec<u8>; 2]> = named.map(|pair| pair.files).collect();
     let sizes = Sizes {
         m: 20,
         widths: vec![1, 2, 1],
@@ -64,14 +73,26 @@ pub fn places(bench: &mut Bench) -> Outcome {
     Ok(())
 }
 
-/// Each word of a session at every byte and at numbers that are no bytes.
+/// Each word of a session at every byte and at numbers that are no bytes; of sessions of eight to ten
+/// inputs, at some bytes.
 pub fn fields(bench: &mut Bench) -> Outcome {
-    let files = [&SAMPLE_A[..], &SAMPLE_B];
+    let some = [0, 1, 2, 8, 9, 10, 11, 64, 255];
+    let eight = plain(2, &[1; 8], 3);
+    damaged(bench, [&SAMPLE_A, &SAMPLE_B], 8, &Vec::from_iter(0..=255))?;
+    damaged(bench, [&eight, &eight], 256, &some)?;
+    damaged(bench, [&SAMPLE_NINE, &SAMPLE_NINE], 512, &some)?;
+    damaged(bench, [&SAMPLE_TEN, &ZERO_TEN], 1024, &some)
+}
+
+/// Each word of a session of these files, whose grid has so many vectors, at these bytes and at
+/// numbers that are no bytes.
+fn damaged(bench: &mut Bench, files: Files, count: u64, bytes: &[u64]) -> Outcome {
     let start = bench.start(files)?;
     let wide = [256, 257, 1 << 32, (1 << 32) + 2, 1 << 63, u64::MAX];
     for index in 0..SESSION {
-        for word in (0..=255).chain(wide) {
-            for (position, mark) in [(0, 0), (3, 0), (8, 1), (6, 2), (9, 0)] {
+        for &word in bytes.iter().chain(&wide) {
+            let near = [(0, 0), (3, 0), (count, 1), (count - 2, 2), (count + 1, 0)];
+            for (position, mark) in near {
                 let mut session = start;
                 session[POSITION] = position;
                 session[MARK] = mark;

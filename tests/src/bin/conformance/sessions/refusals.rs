@@ -4,16 +4,19 @@ use super::Files;
 use super::bench::scratch;
 use crate::bench::{Bench, Outcome};
 use crate::faults::{
-    FILE_FAULTS, Fault, FileFault, STEPS, WIDTHS, of_file, sound_file, subsets as sets,
+    Fault, FileFault, LONG_WIDTHS, STEPS, WIDTHS, file_faults, of_file, sound_file, sound_sizes,
+    subsets as sets,
 };
 use crate::refusals::plain;
 use reference::file::read;
 use reference::pairs::{SAMPLE_A, SAMPLE_B};
 use reference::sessions::{MARK, POSITION, SESSION};
-use reference::sizes::{INPUTS, Sizes};
+use reference::sizes::INPUTS;
+use reference::ten_inputs::{SAMPLE_NINE, SAMPLE_TEN, ZERO_TEN};
 
-/// G of the sound file.
+/// G of the sound files with the short head and with the long one.
 const GRID: u64 = 80;
+const LONG_GRID: u64 = 512;
 
 /// What a continue call is given; an opening takes the files of it.
 struct Call {
@@ -23,48 +26,60 @@ struct Call {
     scratch: usize,
 }
 
-fn sound() -> Call {
-    let sizes = Sizes {
-        m: 8,
-        widths: WIDTHS.to_vec(),
-    };
+fn sound(widths: &[u64]) -> Call {
     let mut session = [0; SESSION];
-    session[..POSITION].copy_from_slice(&sizes.numbers());
+    session[..POSITION].copy_from_slice(&sound_sizes(widths).numbers());
     Call {
-        files: [sound_file(), sound_file()],
+        files: [sound_file(widths), sound_file(widths)],
         session,
         budget: 1,
         scratch: STEPS,
     }
 }
 
-/// Faults in the order of a continue call. The number 102 is made to hold under every mark.
-fn faults() -> Vec<Fault<Call>> {
-    let chosen = [(2, 0), (6, 0), (7, 0), (8, 4)];
+/// Faults in the order of a continue call, those of the files by number and step. The number 102 is
+/// made to hold under every mark.
+fn faults(widths: &[u64], grid: u64, chosen: &[(u64, u64)]) -> Vec<Fault<Call>> {
     let among = |fault: &FileFault| chosen.contains(&(fault.number, fault.step));
     let mut list: Vec<Fault<Call>> = vec![([11, 0, 0], Box::new(|call| call.budget = 0))];
-    list.extend(of_file(1, among, |call: &mut Call| &mut call.files[0]));
-    list.extend(of_file(2, among, |call: &mut Call| &mut call.files[1]));
+    list.extend(of_file(1, widths, among, |call: &mut Call| {
+        &mut call.files[0]
+    }));
+    list.extend(of_file(2, widths, among, |call: &mut Call| {
+        &mut call.files[1]
+    }));
     list.push(([9, 0, 0], Box::new(|call| call.files[1][5] = 4)));
     list.push(([12, 0, 0], Box::new(|call| call.scratch -= 1)));
-    list.push(([101, 0, 0], Box::new(|call| call.session[9] = 1)));
+    list.push(([101, 0, 0], Box::new(|call| call.session[POSITION - 1] = 1)));
     list.push((
         [102, 0, 0],
-        Box::new(|call| call.session[POSITION] = GRID + 1),
+        Box::new(move |call| call.session[POSITION] = grid + 1),
     ));
     list.push((
         [103, 0, 0],
-        Box::new(|call| {
+        Box::new(move |call| {
             call.session[MARK] = 1;
-            call.session[POSITION] = GRID;
+            call.session[POSITION] = grid;
         }),
     ));
     list
 }
 
-/// Every set of fourteen faults, in continue and in open.
+/// Every set of fourteen faults, in continue and in open. Of files with the long head, 1 is judged
+/// before 2 and after 3.
 pub fn subsets(bench: &mut Bench) -> Outcome {
-    for (call, refusal) in sets(&faults(), sound) {
+    let chosen = [(2, 0), (6, 0), (7, 0), (8, 4)];
+    every(bench, &WIDTHS, &faults(&WIDTHS, GRID, &chosen))?;
+    let chosen = [(1, 0), (5, 0), (8, 4)];
+    every(
+        bench,
+        &LONG_WIDTHS,
+        &faults(&LONG_WIDTHS, LONG_GRID, &chosen),
+    )
+}
+
+fn every(bench: &mut Bench, widths: &[u64], faults: &[Fault<Call>]) -> Outcome {
+    for (call, refusal) in sets(faults, || sound(widths)) {
         let files = call.files.each_ref().map(Vec::as_slice);
         let done = bench.answered(files, &call.session, call.budget, &scratch(call.scratch))?;
         bench.same(&done.answer[..3], &refusal, || {
@@ -88,37 +103,56 @@ fn refuses(bench: &mut Bench, files: Files, expected: [u64; 3]) -> Outcome {
     bench.same(&opened.session, &zeros, || {
         String::from("a refused opening")
     })?;
-    for session in [zeros, sound().session] {
+    for session in [zeros, sound(&WIDTHS).session, sound(&LONG_WIDTHS).session] {
         let done = bench.answered(files, &session, 1, &scratch(1030))?;
         bench.same(&done.answer[..3], &expected, || String::from("continue"))?;
     }
     Ok(())
 }
 
-/// Each fault of a file in file 1, in file 2 and in both, and other files beside it.
+/// Each fault of a file in file 1, in file 2 and in both, and other files beside it; and the sessions
+/// of the samples.
 pub fn opening(bench: &mut Bench) -> Outcome {
-    let sound = sound_file();
-    let other = plain(7, &[5, 6, 7], 4);
-    for fault in &FILE_FAULTS {
-        let mut bad = sound.clone();
-        (fault.make)(&mut bad);
-        let refusal = |file| [fault.number, file, fault.step];
-        refuses(bench, [&bad, &sound], refusal(1))?;
-        refuses(bench, [&sound, &bad], refusal(2))?;
-        refuses(bench, [&bad, &other], refusal(1))?;
-        refuses(bench, [&other, &bad], refusal(2))?;
-        for second in &FILE_FAULTS {
-            let mut worse = sound.clone();
-            (second.make)(&mut worse);
-            refuses(bench, [&bad, &worse], refusal(1))?;
+    for widths in [&WIDTHS[..], &LONG_WIDTHS] {
+        let sound = sound_file(widths);
+        let other = plain(7, &[5, 6, 7], 4);
+        for fault in file_faults(widths) {
+            let mut bad = sound.clone();
+            (fault.make)(&mut bad);
+            let refusal = |file| [fault.number, file, fault.step];
+            refuses(bench, [&bad, &sound], refusal(1))?;
+            refuses(bench, [&sound, &bad], refusal(2))?;
+            refuses(bench, [&bad, &other], refusal(1))?;
+            refuses(bench, [&other, &bad], refusal(2))?;
+            for second in file_faults(widths) {
+                let mut worse = sound.clone();
+                (second.make)(&mut worse);
+                refuses(bench, [&bad, &worse], refusal(1))?;
+            }
         }
+        refuses(bench, [&sound, &[]], [1, 2, 0])?;
     }
     refuses(bench, [&[], &[]], [1, 1, 0])?;
-    refuses(bench, [&sound, &[]], [1, 2, 0])?;
-    let samples: Files = [&SAMPLE_A, &SAMPLE_B];
-    let session = bench.start(samples)?;
-    let expected = [2, 2, 1, 2, 0, 0, 0, 0, 0, 0, 0, 0];
-    bench.same(&session, &expected, || String::from("open of the samples"))
+    refuses(bench, [&SAMPLE_NINE, &SAMPLE_TEN], [9, 0, 0])?;
+    let samples: [(Files, [u64; SESSION]); 3] = [
+        (
+            [&SAMPLE_A, &SAMPLE_B],
+            [2, 2, 1, 2, 0, 0, 0, 0, 0, 0, 0, 0, 0, 0],
+        ),
+        (
+            [&SAMPLE_NINE, &SAMPLE_NINE],
+            [2, 9, 1, 1, 1, 1, 1, 1, 1, 1, 1, 0, 0, 0],
+        ),
+        (
+            [&SAMPLE_TEN, &ZERO_TEN],
+            [2, 10, 1, 1, 1, 1, 1, 1, 1, 1, 1, 1, 0, 0],
+        ),
+    ];
+    for (files, expected) in samples {
+        let session = bench.start(files)?;
+        bench.same(&session, &expected, || String::from("open of samples"))?;
+    }
+    Ok(())
 }
 
 /// Number 9 by m, by d and by each word length; and pairs of all sizes opened.

@@ -1,4 +1,5 @@
-//! The pairs of document 01 and the examples of document 002, run to a verdict by various budgets.
+//! The pairs of document 01, those of eight to ten inputs and the examples of document 002, run to a
+//! verdict by various budgets.
 
 use super::Files;
 use super::bench::scratch;
@@ -9,10 +10,11 @@ use reference::file::read;
 use reference::grid::{axes, size};
 use reference::pairs::{self, Pair};
 use reference::sessions::{ANSWER, DIFFERS, EQUIVALENT, KIND, MARK, POSITION, REFUSED, RUN, SPENT};
+use reference::ten_inputs;
 
 pub fn pairs(bench: &mut Bench) -> Outcome {
-    for pair in pairs::pairs() {
-        replay(bench, &pair)?;
+    for pair in pairs::pairs().iter().chain(&ten_inputs::pairs()) {
+        replay(bench, pair)?;
     }
     nine_and_one(bench)
 }

@@ -3,14 +3,17 @@
 use super::Files;
 use super::bench::scratch;
 use crate::bench::{Bench, Outcome};
-use crate::faults::{FILE_FAULTS, sound_file};
+use crate::faults::{LONG_WIDTHS, WIDTHS, file_faults, sound_file};
+use crate::refusals::plain;
 use reference::examples;
 use reference::pairs::{self, SAMPLE_A, SAMPLE_B};
 use reference::random::Random;
 use reference::report::{ROOM, report, text};
 use reference::samples;
 use reference::sessions::{ANSWER, DIFFERS, EQUIVALENT, KIND, REFUSED, RUN, SPENT};
-use reference::twins::{self, KINDS, small_sizes, twin};
+use reference::sizes::INPUTS;
+use reference::ten_inputs;
+use reference::twins::{self, KINDS, twin, varied_sizes};
 use std::collections::BTreeMap;
 
 pub const VERDICTS_SEED: u64 = 0x5e55_10e5_7e47;
@@ -19,8 +22,10 @@ pub const ANSWERS_SEED: u64 = 0x5e55_10e5_a115;
 const PAIRS: u64 = 3_000;
 const ANSWERS: u64 = 30_000;
 
-/// The most vectors of a grid.
+/// The most vectors of a grid, but where there are eight inputs or more; and how many of a hundred
+/// pairs are such.
 const VECTORS: u64 = 400;
+const MANY_INPUTS: u64 = 3;
 
 /// A text slice with no line feed in it.
 fn blank(length: usize) -> Vec<u8> {
@@ -65,27 +70,30 @@ fn finished(bench: &mut Bench, files: Files, budget: u64) -> Outcome<u64> {
     Ok(answer[KIND])
 }
 
-/// Verdicts and refusals, from the files to the text: the pairs of both documents, every refusal of
-/// a file, and random pairs.
+/// Verdicts and refusals, from the files to the text: the pairs of both documents and of ten inputs,
+/// every refusal of a file, and random pairs.
 pub fn verdicts(bench: &mut Bench) -> Outcome {
-    for pair in pairs::pairs().iter().chain(&examples::pairs()) {
+    let named = [pairs::pairs(), ten_inputs::pairs(), examples::pairs()];
+    for pair in named.into_iter().flatten() {
         let files = pair.files.each_ref().map(Vec::as_slice);
         finished(bench, files, 1_000_000)?;
     }
-    let sound = sound_file();
-    for fault in &FILE_FAULTS {
-        let mut bad = sound.clone();
-        (fault.make)(&mut bad);
-        for files in [[&bad, &sound], [&sound, &bad]] {
-            let kind = finished(bench, files.map(Vec::as_slice), 1)?;
-            bench.same(&kind, &REFUSED, || String::from("a damaged file"))?;
+    for widths in [&WIDTHS[..], &LONG_WIDTHS] {
+        let sound = sound_file(widths);
+        for fault in file_faults(widths) {
+            let mut bad = sound.clone();
+            (fault.make)(&mut bad);
+            for files in [[&bad, &sound], [&sound, &bad]] {
+                let kind = finished(bench, files.map(Vec::as_slice), 1)?;
+                bench.same(&kind, &REFUSED, || String::from("a damaged file"))?;
+            }
         }
+        finished(bench, [&sound, &SAMPLE_A], 1)?;
     }
-    finished(bench, [&sound, &SAMPLE_A], 1)?;
     let mut random = Random::new(VERDICTS_SEED);
     let mut seen = BTreeMap::new();
     for index in 0..PAIRS {
-        let sizes = small_sizes(&mut random, 1 + index % 64, VECTORS);
+        let sizes = varied_sizes(&mut random, 1 + index % 64, VECTORS, MANY_INPUTS);
         let path = twins::path(&mut random, &sizes);
         let kind = random.pick(&KINDS);
         let other = twin(&mut random, &path, kind);
@@ -101,7 +109,8 @@ pub fn verdicts(bench: &mut Bench) -> Outcome {
     Ok(())
 }
 
-/// Answers whose words are anything, on any files; answer and text slices of other lengths.
+/// Answers whose words are anything, on any files; the longest text; answer and text slices of other
+/// lengths.
 pub fn answers(bench: &mut Bench) -> Outcome {
     let mut random = Random::new(ANSWERS_SEED);
     let files: Files = [&SAMPLE_A, &SAMPLE_B];
@@ -126,9 +135,12 @@ pub fn answers(bench: &mut Bench) -> Outcome {
         let made = made.each_ref().map(Vec::as_slice);
         writes(bench, made, &answer, run, &text(made, &answer, run))?;
     }
-    let top = [u64::MAX; ANSWER];
-    let answer: [u64; ANSWER] =
-        std::array::from_fn(|at| if at == KIND { DIFFERS } else { top[at] });
+    let mut answer = [u64::MAX; ANSWER];
+    answer[KIND] = DIFFERS;
+    let largest = plain(64, &[64; INPUTS], 1);
+    let longest: Files = [&largest, &largest];
+    let run = u64::MAX;
+    writes(bench, longest, &answer, run, &text(longest, &answer, run))?;
     for room in [0, 1, ROOM - 1] {
         let found = bench.product.report(files, &answer, 1, &blank(room))?;
         bench.same(&found, &None, || format!("a text of {room} bytes"))?;

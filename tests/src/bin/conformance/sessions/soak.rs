@@ -1,13 +1,13 @@
 //! Continue calls from random sessions, sound and damaged, with random files.
 
 use crate::bench::{Bench, Outcome};
-use reference::file::{HEAD, write};
+use reference::file::write;
 use reference::grid::{axes, size};
 use reference::random::Random;
 use reference::samples;
 use reference::sessions::{DIFFERS, EQUIVALENT, KIND, MARK, POSITION, REFUSED, SESSION, SPENT};
-use reference::sizes::Sizes;
-use reference::twins::{self, KINDS, small_sizes, twin};
+use reference::sizes::{INPUTS, Sizes};
+use reference::twins::{self, KINDS, small_sizes, twin, varied_sizes};
 use std::collections::BTreeMap;
 
 pub const SEED: u64 = 0x5e55_10e5_eed0;
@@ -17,10 +17,15 @@ const CALLS: u64 = 40_000;
 /// The most vectors that a call is let run.
 const VECTORS: u64 = 120;
 
+/// How many of a hundred small grids have eight inputs or more.
+const MANY_INPUTS: u64 = 10;
+
 #[derive(Default)]
 struct Seen {
     numbers: BTreeMap<u64, u64>,
     kinds: BTreeMap<u64, u64>,
+    /// Accepted calls, by d.
+    accepted_d: BTreeMap<usize, u64>,
     /// Sessions that don't fit their fields, and openings.
     unfit: u64,
     opened: u64,
@@ -32,7 +37,7 @@ pub fn sessions(bench: &mut Bench) -> Outcome {
     for index in 0..CALLS {
         let m = 1 + index % 64;
         let sizes = match random.chance(70) {
-            true => small_sizes(&mut random, m, VECTORS),
+            true => varied_sizes(&mut random, m, VECTORS, MANY_INPUTS),
             false => samples::sizes(&mut random, m),
         };
         let files = files(&mut random, &sizes);
@@ -42,13 +47,16 @@ pub fn sessions(bench: &mut Bench) -> Outcome {
         let count = size(&axes(&sizes));
         let session = session(&mut random, &sizes, count);
         let budget = budget(&mut random, count, session[POSITION]);
-        let steps = files.map(|file| file.len().saturating_sub(HEAD) / 9);
-        let scratch = scratch(&mut random, steps[0].max(steps[1]));
+        let steps = files[0].len().max(files[1].len()) / 9;
+        let scratch = scratch(&mut random, steps.saturating_sub(1));
         match bench.continued(files, &session, budget, &scratch)? {
             None => seen.unfit += 1,
             Some(done) => {
                 *seen.numbers.entry(done.answer[0]).or_default() += 1;
                 *seen.kinds.entry(done.answer[KIND]).or_default() += 1;
+                if done.answer[0] == 0 {
+                    *seen.accepted_d.entry(sizes.d()).or_default() += 1;
+                }
             }
         }
     }
@@ -148,6 +156,9 @@ impl Seen {
                 self.kinds.get(&kind),
                 2_000,
             )?;
+        }
+        for d in 1..=INPUTS {
+            often(format!("accepted, d {d}"), self.accepted_d.get(&d), 300)?;
         }
         often(String::from("unfit sessions"), Some(&self.unfit), 500)?;
         often(String::from("openings"), Some(&self.opened), CALLS / 2)

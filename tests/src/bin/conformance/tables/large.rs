@@ -32,7 +32,7 @@ pub fn tables(bench: &mut Bench) -> Outcome {
     let list: [(u64, &[u64]); 3] = [
         (64, &[64, 64, 64]),
         (4, &[4; 7]),
-        (61, &[6, 64, 1, 1, 1, 1, 1, 1]),
+        (61, &[6, 4, 1, 1, 1, 1, 1, 1, 1, 1]),
     ];
     for (m, widths) in list {
         let sizes = Sizes {
@@ -84,8 +84,8 @@ pub fn files(bench: &mut Bench) -> Outcome {
     expected[place_of(&grid, &degrees) as usize] = factorials.iter().product();
     bench.cells(&table, &expected, || String::from("falling factorials"))?;
 
-    let polynomial: Expression = 3 * x(1) * x(2) * x(3) - x(4) + 5;
-    let file = polynomial.file(16, &[16; 4]);
+    let polynomial: Expression = 3 * x(1) * x(2) * x(10) - x(9) * x(3) + 5;
+    let file = polynomial.file(16, &[16, 16, 1, 1, 1, 1, 1, 1, 1, 1]);
     let path = read(&file, 1).map_err(|refusal| format!("{refusal:?}"))?;
     let grid = axes(&path.sizes);
     let table = bench.table_of(&file, size(&grid) as usize)?;

@@ -1,12 +1,15 @@
-//! The tables of both documents: made from the file, differenced from its outputs, and summed.
+//! The tables of both documents and those of nine and ten inputs: made from the file, differenced
+//! from its outputs, and summed.
 
 use crate::bench::{Bench, Outcome};
 use reference::grid::{axes, place_of, size, vectors};
 use reference::newton_examples;
 use reference::sizes::Sizes;
+use reference::ten_inputs;
 
 pub fn tables(bench: &mut Bench) -> Outcome {
-    for example in newton_examples::tables() {
+    let list = newton_examples::tables().into_iter();
+    for example in list.chain(ten_inputs::tables()) {
         let name = example.name;
         let file = example.polynomial.file(example.m, &example.widths);
         let sizes = Sizes {

@@ -3,6 +3,7 @@
 use crate::bench::Outcome;
 use crate::lent::Lent;
 use crate::product::{Product, ask, perhaps, right_length, wrong_lengths};
+use reference::sizes::SIZES;
 use reference::tables::Written;
 
 unsafe extern "C" {
@@ -51,8 +52,8 @@ type CellFunction = unsafe extern "C" fn(
     usize,
 ) -> u32;
 
-/// m, d and the eight word lengths.
-pub type Numbers = [u64; 10];
+/// m, d and the ten word lengths.
+pub type Numbers = [u64; SIZES];
 
 impl Product {
     /// The table slice with the refusal, and the scratch slice, after the call.

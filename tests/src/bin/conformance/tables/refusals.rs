@@ -3,7 +3,10 @@
 use super::bench::filling;
 use super::product::Numbers;
 use crate::bench::{Bench, Outcome};
-use crate::faults::{Fault, STEPS, WIDTHS, of_file, sound_file, subsets};
+use crate::faults::{
+    Fault, FileFault, LONG_WIDTHS, STEPS, WIDTHS, at_the_ends, of_file, sound_file, sound_sizes,
+    subsets,
+};
 use crate::refusals::plain;
 use reference::grid::{axes, size};
 use reference::samples::top;
@@ -17,18 +20,29 @@ struct TableCall {
     cells: usize,
 }
 
-/// G of the sound file.
+/// G of the sound files with the short head and with the long one.
 const GRID: usize = 80;
+const LONG_GRID: usize = 512;
 
-/// Every set of sixteen faults.
+/// Every set of sixteen faults, and of thirteen where the file has the long head.
 pub fn of_table(bench: &mut Bench) -> Outcome {
-    let mut faults = of_file(1, |_| true, |call: &mut TableCall| &mut call.file);
+    every(bench, &WIDTHS, GRID, |_| true)?;
+    every(bench, &LONG_WIDTHS, LONG_GRID, at_the_ends)
+}
+
+fn every(
+    bench: &mut Bench,
+    widths: &[u64],
+    cells: usize,
+    chosen: fn(&FileFault) -> bool,
+) -> Outcome {
+    let mut faults = of_file(1, widths, chosen, |call: &mut TableCall| &mut call.file);
     faults.push(([12, 0, 0], Box::new(|call| call.scratch -= 1)));
     faults.push(([13, 0, 0], Box::new(|call| call.cells -= 1)));
     let sound = || TableCall {
-        file: sound_file(),
+        file: sound_file(widths),
         scratch: STEPS,
-        cells: GRID,
+        cells,
     };
     for (call, refusal) in subsets(&faults, sound) {
         let made = bench.table(&call.file, &filling(call.scratch), &filling(call.cells))?;
@@ -46,34 +60,40 @@ struct CellCall {
     lent: usize,
 }
 
-fn sound() -> CellCall {
-    let sizes = Sizes {
-        m: 8,
-        widths: WIDTHS.to_vec(),
-    };
+fn sound(widths: &[u64], cells: usize) -> CellCall {
     CellCall {
-        numbers: sizes.numbers(),
-        given: (0..GRID as u64).map(|cell| cell * 3 % 256).collect(),
-        lent: GRID,
+        numbers: sound_sizes(widths).numbers(),
+        given: (0..cells as u64).map(|cell| cell * 3 % 256).collect(),
+        lent: cells,
     }
 }
 
-/// Every set of faults in the sizes and in both slices.
+/// Every set of faults in the sizes and in both slices, of two inputs and of nine.
 pub fn of_cells(bench: &mut Bench) -> Outcome {
-    let faults: [Fault<CellCall>; 10] = [
-        ([2, 0, 0], Box::new(|call| call.numbers[0] = 65)),
-        ([3, 0, 0], Box::new(|call| call.numbers[1] = 9)),
-        ([5, 0, 0], Box::new(|call| call.numbers[2] = 0)),
-        ([5, 0, 0], Box::new(|call| call.numbers[3] = 65)),
-        ([5, 0, 0], Box::new(|call| call.numbers[4] = 1)),
-        ([5, 0, 0], Box::new(|call| call.numbers[9] = 255)),
-        ([13, 0, 0], Box::new(|call| call.lent -= 1)),
-        ([13, 0, 0], Box::new(|call| call.given.truncate(GRID - 1))),
-        ([13, 0, 0], Box::new(|call| call.given[0] = 256)),
-        ([13, 0, 0], Box::new(|call| call.given[GRID - 2] = u64::MAX)),
-    ];
-    for (call, refusal) in subsets(&faults, sound) {
-        both(bench, &call.numbers, &call.given, call.lent, Some(refusal))?;
+    let sound_calls: [(&[u64], usize); 2] = [(&WIDTHS, GRID), (&LONG_WIDTHS, LONG_GRID)];
+    for (widths, cells) in sound_calls {
+        let unused = 2 + widths.len();
+        let faults: [Fault<CellCall>; 10] = [
+            ([2, 0, 0], Box::new(|call| call.numbers[0] = 65)),
+            ([3, 0, 0], Box::new(|call| call.numbers[1] = 11)),
+            ([5, 0, 0], Box::new(|call| call.numbers[2] = 0)),
+            ([5, 0, 0], Box::new(|call| call.numbers[3] = 65)),
+            ([5, 0, 0], Box::new(move |call| call.numbers[unused] = 1)),
+            ([5, 0, 0], Box::new(|call| call.numbers[11] = 255)),
+            ([13, 0, 0], Box::new(|call| call.lent -= 1)),
+            (
+                [13, 0, 0],
+                Box::new(move |call| call.given.truncate(cells - 1)),
+            ),
+            ([13, 0, 0], Box::new(|call| call.given[0] = 256)),
+            (
+                [13, 0, 0],
+                Box::new(move |call| call.given[cells - 2] = u64::MAX),
+            ),
+        ];
+        for (call, refusal) in subsets(&faults, || sound(widths, cells)) {
+            both(bench, &call.numbers, &call.given, call.lent, Some(refusal))?;
+        }
     }
     Ok(())
 }
@@ -101,9 +121,11 @@ fn both(
 /// Slices one short, exact and long; entries past G stay, and those of the slice that is read are
 /// free.
 pub fn lengths(bench: &mut Bench) -> Outcome {
-    let list: [(u64, &[u64]); 7] = [
+    let list: [(u64, &[u64]); 9] = [
         (1, &[1]),
         (1, &[1; 8]),
+        (1, &[64; 9]),
+        (2, &[1; 10]),
         (3, &[1, 2]),
         (8, &[8]),
         (64, &[64]),
@@ -146,10 +168,13 @@ pub fn lengths(bench: &mut Bench) -> Outcome {
 /// Cells at 2^m − 1 and at 2^m, at the first and the last place that counts and at the next.
 pub fn cells(bench: &mut Bench) -> Outcome {
     for m in 1..=64 {
-        let sizes = Sizes {
-            m,
-            widths: vec![2, 3],
+        let widths = match m % 16 {
+            0 => vec![1; 10],
+            8 => vec![1; 9],
+            4 | 12 => vec![1; 8],
+            _ => vec![2, 3],
         };
+        let sizes = Sizes { m, widths };
         let count = size(&axes(&sizes)) as usize;
         let greatest = top(m);
         let full = vec![greatest; count + 1];
@@ -169,10 +194,32 @@ pub fn cells(bench: &mut Bench) -> Outcome {
     Ok(())
 }
 
-/// Each of the ten numbers at every byte and past it.
+/// The most cells of a grid here.
+const MOST: usize = 1_024;
+
+/// Sizes of eight to eleven inputs as numbers, and the condition that refuses them, or 0.
+const MANY_INPUTS: [(Numbers, u64); 9] = [
+    ([8, 8, 1, 1, 1, 1, 1, 1, 1, 1, 0, 0], 0),
+    ([8, 8, 1, 1, 1, 1, 1, 1, 1, 1, 1, 0], 5),
+    ([8, 8, 1, 1, 1, 1, 1, 1, 1, 1, 0, 1], 5),
+    ([8, 9, 1, 1, 1, 1, 1, 1, 1, 1, 1, 0], 0),
+    ([8, 9, 1, 1, 1, 1, 1, 1, 1, 1, 0, 0], 5),
+    ([8, 9, 1, 1, 1, 1, 1, 1, 1, 1, 1, 1], 5),
+    ([8, 10, 1, 1, 1, 1, 1, 1, 1, 1, 1, 1], 0),
+    ([8, 10, 1, 1, 1, 1, 1, 1, 1, 1, 1, 0], 5),
+    ([8, 11, 1, 1, 1, 1, 1, 1, 1, 1, 1, 1], 3),
+];
+
+/// Each of the twelve numbers at every byte and past it; and sizes of many inputs.
 pub fn numbers(bench: &mut Bench) -> Outcome {
-    let wide = [256, 257, 264, 1 << 32, (1 << 32) + 8, 1 << 63, u64::MAX];
-    let list: [(u64, &[u64]); 3] = [(8, &WIDTHS), (64, &[64]), (1, &[1; 8])];
+    let wide = [256, 257, 266, 1 << 32, (1 << 32) + 8, 1 << 63, u64::MAX];
+    let list: [(u64, &[u64]); 5] = [
+        (8, &WIDTHS),
+        (64, &[64]),
+        (1, &[1; 8]),
+        (8, &[1; 9]),
+        (8, &[1; 10]),
+    ];
     for (m, widths) in list {
         let widths = widths.to_vec();
         let numbers = Sizes { m, widths }.numbers();
@@ -180,14 +227,17 @@ pub fn numbers(bench: &mut Bench) -> Outcome {
             let mut damaged = numbers;
             for byte in 0..=255 {
                 damaged[index] = byte;
-                bench.difference(&damaged, &[0; 700], &filling(700))?;
-                bench.sum(&damaged, &[0; 700], &filling(700))?;
+                bench.difference(&damaged, &[0; MOST], &filling(MOST))?;
+                bench.sum(&damaged, &[0; MOST], &filling(MOST))?;
             }
             for number in wide {
                 damaged[index] = number;
-                both(bench, &damaged, &[0; 700], 700, None)?;
+                both(bench, &damaged, &[0; MOST], MOST, None)?;
             }
         }
+    }
+    for (numbers, number) in MANY_INPUTS {
+        both(bench, &numbers, &[0; MOST], MOST, Some([number, 0, 0]))?;
     }
     Ok(())
 }

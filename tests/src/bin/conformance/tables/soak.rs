@@ -1,13 +1,13 @@
-//! Random tables of one to eight axes at every m, and tables of random files.
+//! Random tables of one to ten axes at every m, and tables of random files.
 
 use crate::bench::{Bench, Outcome};
 use reference::file::{read, write};
 use reference::grid::{axes, size, vector_at};
 use reference::random::Random;
 use reference::samples::{self, SHAPES, top};
-use reference::sizes::Sizes;
+use reference::sizes::{INPUTS, Sizes};
 use reference::tables::{Written, outputs};
-use reference::twins::small_sizes;
+use reference::twins::varied_sizes;
 use std::collections::BTreeMap;
 
 pub const SEED: u64 = 0x7ab1_e5ee_d000;
@@ -15,9 +15,11 @@ pub const SEED: u64 = 0x7ab1_e5ee_d000;
 const TABLES: u64 = 4_800;
 const FILES: u64 = 2_400;
 
-/// The most cells of a random table, and of the table of a random file.
+/// The most cells of a random table, and of the table of a random file, but where there are eight
+/// inputs or more; and how many of a hundred are such.
 const CELLS: u64 = 600;
 const FILE_CELLS: u64 = 300;
+const MANY_INPUTS: u64 = 8;
 
 /// How often each answer, each m and each count of axes has occurred.
 #[derive(Default)]
@@ -49,7 +51,7 @@ impl Seen {
         for m in 1..=64 {
             often(format!("accepted, m {m}"), self.accepted_m.get(&m))?;
         }
-        for d in 1..=8 {
+        for d in 1..=INPUTS {
             often(format!("accepted, d {d}"), self.accepted_d.get(&d))?;
         }
         Ok(())
@@ -85,7 +87,7 @@ pub fn tables(bench: &mut Bench) -> Outcome {
     let mut random = Random::new(SEED);
     let mut seen = Seen::default();
     for index in 0..TABLES {
-        let sizes = small_sizes(&mut random, 1 + index % 64, CELLS);
+        let sizes = varied_sizes(&mut random, 1 + index % 64, CELLS, MANY_INPUTS);
         let numbers = sizes.numbers();
         let count = size(&axes(&sizes)) as usize;
         let given = length(&mut random, count);
@@ -120,7 +122,7 @@ pub fn files(bench: &mut Bench) -> Outcome {
     let mut random = Random::new(SEED + 1);
     let mut seen = Seen::default();
     for index in 0..FILES {
-        let sizes = small_sizes(&mut random, 1 + index % 64, FILE_CELLS);
+        let sizes = varied_sizes(&mut random, 1 + index % 64, FILE_CELLS, MANY_INPUTS);
         let steps = random.between(1, 24) as usize;
         let shape = random.pick(&SHAPES);
         let mut file = write(&samples::path(&mut random, &sizes, steps, shape));

@@ -8,22 +8,22 @@
 
 #include <stdio.h>
 
-/* The longest file that is accepted, 12 + 9 * 1,024 bytes. A longer one is refused by its length,
- * so one byte more is enough to read. */
-enum { LONGEST = 12 + 9 * CORKBINGO_STEPS };
+/* A file longer than any that is accepted is refused by its length, so one byte more than those
+ * have is enough to read. */
+enum { ROOM = CORKBINGO_FILE_BYTES + 1 };
 
 /* The vectors of one call. Between two calls a program may show its progress, or stop for today:
  * the session's words are all that it has to keep. */
 #define BUDGET UINT64_C(1000000)
 
-/* Reads a file into LONGEST + 1 bytes. One that cannot be read counts as empty. */
+/* Reads a file into ROOM bytes. One that cannot be read counts as empty. */
 static size_t read_file(const char *name, uint8_t *bytes)
 {
     size_t length = 0;
     FILE *file = fopen(name, "rb");
 
     if (file != NULL) {
-        length = fread(bytes, 1, LONGEST + 1, file);
+        length = fread(bytes, 1, ROOM, file);
         if (ferror(file))
             length = 0;
         fclose(file);
@@ -33,7 +33,7 @@ static size_t read_file(const char *name, uint8_t *bytes)
 
 int main(int argc, char **argv)
 {
-    static uint8_t file1[LONGEST + 1], file2[LONGEST + 1];
+    static uint8_t file1[ROOM], file2[ROOM];
     static uint64_t scratch[CORKBINGO_STEPS];
     uint64_t session[CORKBINGO_SESSION_WORDS], refusal[CORKBINGO_OPEN_WORDS];
     uint64_t answer[CORKBINGO_CONTINUE_WORDS], length[CORKBINGO_REPORT_WORDS], run = 0;

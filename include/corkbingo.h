@@ -13,8 +13,8 @@
  * Every answer goes into a word slice of a fixed length, which the caller lends. Sizes and
  * sessions are word slices of fixed lengths too:
  *
- *   sizes, 10 words      m, d, n1 to n8 (0 past the d-th); each at most 255
- *   session, 12 words    m, d, n1 to n8, each at most 255; position; mark (CORKBINGO_MARK_..)
+ *   sizes, 12 words      m, d, n1 to n10 (0 past the d-th); each at most 255
+ *   session, 14 words    m, d, n1 to n10, each at most 255; position; mark (CORKBINGO_MARK_..)
  *
  * A function returns 1 where these lengths are right and the words that it reads of sizes or of a
  * session fit their fields. The answer is then written whole, a refusal too. Otherwise it returns
@@ -26,12 +26,12 @@
  * untouched, the session of a continue call too; a refused opening sets the session to zeros.
  * The numbers:
  *
- *    1  a file is under 12 bytes
+ *    1  a file is under 12 bytes, or under 14 where d is 9 or 10
  *    2  m is not 1 to 64
- *    3  d is not 1 to 8
+ *    3  d is not 1 to 10
  *    4  N is not 1 to 1,024
  *    5  a word length breaks its rule
- *    6  the length is not 12 + 9N
+ *    6  the length is not 12 + 9N, or 14 + 9N where d is 9 or 10
  *    7  an operation byte is not 1 to 5
  *    8  an argument breaks its rule
  *    9  the files differ in m, d or a word length
@@ -46,6 +46,7 @@
  *
  * Where several hold, the first in this order is given: 11; file 1 by 1 to 6, then step by step 7
  * before 8; file 2 likewise; 9; 12; 13; 14; 101; 102; 103. A call skips what it has no part in.
+ * That a file of 9 or 10 inputs is under 14 bytes is judged between 3 and 4, when d is known.
  * In 1 to 8 the file is 1 or 2, a lone file being 1, and 0 where m or sizes are given as numbers.
  * In 7 and 8 the step is the offending one, counted from 0. Otherwise file and step are 0.
  */
@@ -57,30 +58,40 @@
 
 /* The version of this interface: it grows with every change of a function, of a layout or of the
  * refusal numbers. */
-#define CORKBINGO_VERSION 4
+#define CORKBINGO_VERSION 5
 
 /* The stack, in bytes, with which a thread can make every call. */
 #define CORKBINGO_STACK_BYTES 106496
 
 /* The most inputs and the most steps that a file may have. */
-#define CORKBINGO_INPUTS 8
+#define CORKBINGO_INPUTS 10
 #define CORKBINGO_STEPS 1024
 
+/* The head of a file, the bytes before its operations: m, d, two bytes for N, and word lengths. A
+ * file of at most CORKBINGO_SHORT_INPUTS inputs holds so many word lengths, one of more inputs
+ * CORKBINGO_INPUTS. The head is followed by 9 bytes for each step. */
+#define CORKBINGO_SHORT_INPUTS 8
+#define CORKBINGO_HEAD_BYTES(d) \
+    (4 + ((d) <= CORKBINGO_SHORT_INPUTS ? CORKBINGO_SHORT_INPUTS : CORKBINGO_INPUTS))
+
+/* The length of the longest file that is accepted, in bytes. */
+#define CORKBINGO_FILE_BYTES (CORKBINGO_HEAD_BYTES(CORKBINGO_INPUTS) + 9 * CORKBINGO_STEPS)
+
 /* The lengths of sizes and sessions, in words. */
-#define CORKBINGO_SIZES_WORDS 10
-#define CORKBINGO_SESSION_WORDS 12
+#define CORKBINGO_SIZES_WORDS (2 + CORKBINGO_INPUTS)
+#define CORKBINGO_SESSION_WORDS (CORKBINGO_SIZES_WORDS + 2)
 
 /* The lengths of the answers, in words. */
 #define CORKBINGO_CHECK_WORDS 3
 #define CORKBINGO_OPERATIONS_WORDS 2
 #define CORKBINGO_BOUND_WORDS 10
-#define CORKBINGO_GRID_WORDS 12
+#define CORKBINGO_GRID_WORDS (4 + CORKBINGO_INPUTS)
 #define CORKBINGO_EVALUATE_WORDS 4
 #define CORKBINGO_TABLE_WORDS 3
 #define CORKBINGO_DIFFERENCE_WORDS 3
 #define CORKBINGO_SUM_WORDS 3
 #define CORKBINGO_OPEN_WORDS 3
-#define CORKBINGO_CONTINUE_WORDS 15
+#define CORKBINGO_CONTINUE_WORDS (7 + CORKBINGO_INPUTS)
 #define CORKBINGO_REPORT_WORDS 1
 
 /* The least length of a text slice, in bytes: no text of corkbingo_report is longer. */
@@ -96,12 +107,16 @@
 #define CORKBINGO_BOUND_LEAST 3
 #define CORKBINGO_BOUND_QUOTIENTS 4
 
-/* Where the words of a session stand. */
+/* Where the words of an answer of corkbingo_grid stand, after the refusal: u1, and G. */
+#define CORKBINGO_GRID_AXES 3
+#define CORKBINGO_GRID_SIZE (CORKBINGO_GRID_AXES + CORKBINGO_INPUTS)
+
+/* Where the words of a session stand; m, d and the word lengths stand in sizes as here. */
 #define CORKBINGO_SESSION_M 0
 #define CORKBINGO_SESSION_D 1
 #define CORKBINGO_SESSION_WIDTHS 2
-#define CORKBINGO_SESSION_POSITION 10
-#define CORKBINGO_SESSION_MARK 11
+#define CORKBINGO_SESSION_POSITION (CORKBINGO_SESSION_WIDTHS + CORKBINGO_INPUTS)
+#define CORKBINGO_SESSION_MARK (CORKBINGO_SESSION_POSITION + 1)
 
 /* The mark of a session: its word CORKBINGO_SESSION_MARK. */
 #define CORKBINGO_MARK_OPEN 0
@@ -112,8 +127,8 @@
 #define CORKBINGO_ANSWER_KIND 3
 #define CORKBINGO_ANSWER_RUN 4
 #define CORKBINGO_ANSWER_VECTOR 5
-#define CORKBINGO_ANSWER_OUTPUT1 13
-#define CORKBINGO_ANSWER_OUTPUT2 14
+#define CORKBINGO_ANSWER_OUTPUT1 (CORKBINGO_ANSWER_VECTOR + CORKBINGO_INPUTS)
+#define CORKBINGO_ANSWER_OUTPUT2 (CORKBINGO_ANSWER_OUTPUT1 + 1)
 
 /* The kind of an answer of corkbingo_continue: its word CORKBINGO_ANSWER_KIND. */
 #define CORKBINGO_KIND_REFUSED 0
@@ -129,7 +144,8 @@ extern "C" {
 uint32_t corkbingo_check(const uint8_t *file, size_t file_len, uint64_t *out, size_t out_len);
 
 /* Finds the operation bytes of a file. Answer, 2 words: start and length of their stretch in the
- * file, 12 and N; 0 and 0 of a refused file, whose number corkbingo_check gives. */
+ * file, which are the head's length, 12 or 14, and N; 0 and 0 of a refused file, whose number
+ * corkbingo_check gives. */
 uint32_t corkbingo_operations(const uint8_t *file, size_t file_len, uint64_t *out, size_t out_len);
 
 /* The bound of an output word length m. Answer, 10 words: the refusal (by 2); L(m), the least
@@ -138,7 +154,7 @@ uint32_t corkbingo_operations(const uint8_t *file, size_t file_len, uint64_t *ou
  * of L(m) - 1 add up to less than m. */
 uint32_t corkbingo_bound(uint64_t m, uint64_t *out, size_t out_len);
 
-/* The grid of a file. Answer, 12 words: the refusal; u1 to u8, the count of values of each input
+/* The grid of a file. Answer, 14 words: the refusal; u1 to u10, the count of values of each input
  * on the grid, 0 past the d-th; G, their product over the d inputs. */
 uint32_t corkbingo_grid(const uint8_t *file, size_t file_len, uint64_t *out, size_t out_len);
 
@@ -182,8 +198,8 @@ uint32_t corkbingo_open(const uint8_t *file1, size_t file1_len,
                         uint64_t *session, size_t session_len,
                         uint64_t *out, size_t out_len);
 
-/* Compares the two files at up to `budget` grid vectors from the session's position on. Answer, 15
- * words: the refusal; the kind; the count of vectors run; x1 to x8; the output of file 1; the
+/* Compares the two files at up to `budget` grid vectors from the session's position on. Answer, 17
+ * words: the refusal; the kind; the count of vectors run; x1 to x10; the output of file 1; the
  * output of file 2. By kind:
  *
  *   spent         none of these vectors differs, and more remain; the position grows by the budget

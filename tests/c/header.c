@@ -1,11 +1,12 @@
 /* Calls each function of the header, on the sample files of document 01: a.dp, x1 x2 with m 2 and
- * word lengths 1 and 2, and b.dp, 0 with the same sizes; and with empty slices whose pointers are
- * null. Prints `ok header: K comparisons`, or `FAILED header: what`, and ends
- * with status 1 where something failed. */
+ * word lengths 1 and 2, and b.dp, 0 with the same sizes; on files of ten inputs; with slices of
+ * wrong lengths; and with empty slices whose pointers are null. Prints `ok header: K comparisons`,
+ * or `FAILED header: what`, and ends with status 1 where something failed. */
 #include "corkbingo.h"
 
 #include <inttypes.h>
 #include <stdio.h>
+#include <string.h>
 
 static const uint8_t sample[39] = {
     2, 2, 3, 0, 1, 2, 0, 0, 0, 0, 0, 0,
@@ -86,17 +87,24 @@ static const uint8_t wrong[30] = {
     1, 0, 0, 0, 0, 0, 0, 0,
 };
 
+static void reported(const uint8_t *text, uint64_t length, const char *lines)
+{
+    same("length of report", 0, length, strlen(lines));
+    for (size_t index = 0; lines[index] != 0; index++)
+        same("text of report", index, text[index], (uint8_t)lines[index]);
+}
+
 static void sessions(void)
 {
     static const uint64_t accepted[CORKBINGO_OPEN_WORDS] = {0, 0, 0};
     static const uint64_t opened[CORKBINGO_SESSION_WORDS] = {2, 2, 1, 2};
     static const uint64_t before[CORKBINGO_SESSION_WORDS] = {
-        2, 2, 1, 2, 0, 0, 0, 0, 0, 0, 5, CORKBINGO_MARK_OPEN};
+        2, 2, 1, 2, 0, 0, 0, 0, 0, 0, 0, 0, 5, CORKBINGO_MARK_OPEN};
     static const uint64_t after[CORKBINGO_SESSION_WORDS] = {
-        2, 2, 1, 2, 0, 0, 0, 0, 0, 0, 6, CORKBINGO_MARK_DIFFER};
+        2, 2, 1, 2, 0, 0, 0, 0, 0, 0, 0, 0, 6, CORKBINGO_MARK_DIFFER};
     static const uint64_t spent[CORKBINGO_CONTINUE_WORDS] = {0, 0, 0, CORKBINGO_KIND_SPENT, 5};
     static const uint64_t shown[CORKBINGO_CONTINUE_WORDS] = {
-        0, 0, 0, CORKBINGO_KIND_DIFFERS, 1, 1, 1, 0, 0, 0, 0, 0, 0, 1, 0};
+        0, 0, 0, CORKBINGO_KIND_DIFFERS, 1, 1, 1, 0, 0, 0, 0, 0, 0, 0, 0, 1, 0};
     static const uint64_t refused[CORKBINGO_CONTINUE_WORDS] = {103};
     static const char lines[] = "grid 2 4 = 8\ndiffer 1 1 : 1 0\nrun 6\n";
     uint8_t text[CORKBINGO_TEXT_BYTES];
@@ -150,9 +158,148 @@ static void sessions(void)
     returned = corkbingo_report(sample, sizeof sample, zero, sizeof zero, shown, CORKBINGO_CONTINUE_WORDS, 6,
                                 text, CORKBINGO_TEXT_BYTES, out, CORKBINGO_REPORT_WORDS);
     same("report", 0, returned, 1);
-    same("length of report", 0, out[0], sizeof lines - 1);
-    for (size_t index = 0; index < sizeof lines - 1; index++)
-        same("text of report", index, text[index], (uint8_t)lines[index]);
+    reported(text, out[0], lines);
+}
+
+/* x1 x10 with m 2 and ten inputs of 1 bit, and 0 with the same sizes. */
+static const uint8_t ten[41] = {
+    2, 10, 3, 0, 1, 1, 1, 1, 1, 1, 1, 1, 1, 1,
+    1, 1, 5,
+    0, 0, 0, 0, 0, 0, 0, 0,
+    9, 0, 0, 0, 0, 0, 0, 0,
+    0, 0, 1, 0, 0, 0, 0, 0,
+};
+static const uint8_t zero_ten[23] = {
+    2, 10, 1, 0, 1, 1, 1, 1, 1, 1, 1, 1, 1, 1,
+    2,
+    0, 0, 0, 0, 0, 0, 0, 0,
+};
+
+static void ten_inputs(void)
+{
+    static const uint64_t accepted[CORKBINGO_CHECK_WORDS] = {0, 0, 0};
+    static const uint64_t short_file[CORKBINGO_CHECK_WORDS] = {1, 1, 0};
+    static const uint64_t stretch[CORKBINGO_OPERATIONS_WORDS] = {14, 3};
+    static const uint64_t grid[CORKBINGO_GRID_WORDS] = {0, 0, 0, 2, 2, 2, 2, 2, 2, 2, 2, 2, 2, 1024};
+    static const uint64_t vector[CORKBINGO_INPUTS] = {1, 0, 0, 0, 0, 0, 0, 0, 0, 1};
+    static const uint64_t output[CORKBINGO_EVALUATE_WORDS] = {0, 0, 0, 1};
+    static const uint64_t opened[CORKBINGO_SESSION_WORDS] = {2, 10, 1, 1, 1, 1, 1, 1, 1, 1, 1, 1, 0, 0};
+    static const uint64_t after[CORKBINGO_SESSION_WORDS] = {
+        2, 10, 1, 1, 1, 1, 1, 1, 1, 1, 1, 1, 514, CORKBINGO_MARK_DIFFER};
+    static const uint64_t shown[CORKBINGO_CONTINUE_WORDS] = {
+        0, 0, 0, CORKBINGO_KIND_DIFFERS, 514, 1, 0, 0, 0, 0, 0, 0, 0, 0, 1, 1, 0};
+    static const char lines[] =
+        "grid 2 2 2 2 2 2 2 2 2 2 = 1024\ndiffer 1 0 0 0 0 0 0 0 0 1 : 1 0\nrun 514\n";
+    static uint64_t cells[1024], outputs[1024];
+    uint64_t scratch[3], session[CORKBINGO_SESSION_WORDS], out[CORKBINGO_CONTINUE_WORDS];
+    uint8_t text[CORKBINGO_TEXT_BYTES];
+    uint32_t returned;
+
+    returned = corkbingo_check(ten, sizeof ten, out, CORKBINGO_CHECK_WORDS);
+    answer("check, ten inputs", returned, out, accepted, CORKBINGO_CHECK_WORDS);
+    returned = corkbingo_check(ten, CORKBINGO_HEAD_BYTES(10) - 1, out, CORKBINGO_CHECK_WORDS);
+    answer("check, ten inputs, 13 bytes", returned, out, short_file, CORKBINGO_CHECK_WORDS);
+    returned = corkbingo_operations(ten, sizeof ten, out, CORKBINGO_OPERATIONS_WORDS);
+    answer("operations, ten inputs", returned, out, stretch, CORKBINGO_OPERATIONS_WORDS);
+    returned = corkbingo_grid(ten, sizeof ten, out, CORKBINGO_GRID_WORDS);
+    answer("grid, ten inputs", returned, out, grid, CORKBINGO_GRID_WORDS);
+    same("u10", CORKBINGO_GRID_AXES + 9, out[CORKBINGO_GRID_AXES + 9], 2);
+    same("G", CORKBINGO_GRID_SIZE, out[CORKBINGO_GRID_SIZE], 1024);
+    returned = corkbingo_evaluate(ten, sizeof ten, vector, CORKBINGO_INPUTS, scratch, 3, out,
+                                  CORKBINGO_EVALUATE_WORDS);
+    answer("evaluate, ten inputs", returned, out, output, CORKBINGO_EVALUATE_WORDS);
+
+    returned = corkbingo_table(ten, sizeof ten, scratch, 3, cells, 1024, out, CORKBINGO_TABLE_WORDS);
+    answer("table, ten inputs", returned, out, accepted, CORKBINGO_TABLE_WORDS);
+    for (size_t index = 0; index < 1024; index++)
+        same("cells, ten inputs", index, cells[index], index == 513);
+    returned = corkbingo_sum(opened, CORKBINGO_SIZES_WORDS, cells, 1024, outputs, 1024, out,
+                             CORKBINGO_SUM_WORDS);
+    answer("sum, ten inputs", returned, out, accepted, CORKBINGO_SUM_WORDS);
+    for (size_t index = 0; index < 1024; index++)
+        same("outputs, ten inputs", index, outputs[index], index >= 512 && index % 2 == 1);
+
+    returned = corkbingo_open(ten, sizeof ten, zero_ten, sizeof zero_ten, session,
+                              CORKBINGO_SESSION_WORDS, out, CORKBINGO_OPEN_WORDS);
+    answer("open, ten inputs", returned, out, accepted, CORKBINGO_OPEN_WORDS);
+    answer("session, ten inputs", returned, session, opened, CORKBINGO_SESSION_WORDS);
+    returned = corkbingo_continue(ten, sizeof ten, zero_ten, sizeof zero_ten, session,
+                                  CORKBINGO_SESSION_WORDS, UINT64_MAX, scratch, 3, out,
+                                  CORKBINGO_CONTINUE_WORDS);
+    answer("differs, ten inputs", returned, out, shown, CORKBINGO_CONTINUE_WORDS);
+    answer("session of differs, ten inputs", returned, session, after, CORKBINGO_SESSION_WORDS);
+    returned = corkbingo_report(ten, sizeof ten, zero_ten, sizeof zero_ten, shown, CORKBINGO_CONTINUE_WORDS,
+                                514, text, CORKBINGO_TEXT_BYTES, out, CORKBINGO_REPORT_WORDS);
+    same("report, ten inputs", 0, returned, 1);
+    reported(text, out[0], lines);
+}
+
+/* The names of the header have the figures of the layouts. */
+static void names(void)
+{
+    same("version", 0, CORKBINGO_VERSION, 5);
+    same("inputs", 0, CORKBINGO_INPUTS, 10);
+    same("head of 1 input", 0, CORKBINGO_HEAD_BYTES(1), 12);
+    same("head of 8 inputs", 0, CORKBINGO_HEAD_BYTES(8), 12);
+    same("head of 9 inputs", 0, CORKBINGO_HEAD_BYTES(9), 14);
+    same("head of 10 inputs", 0, CORKBINGO_HEAD_BYTES(10), 14);
+    same("longest file", 0, CORKBINGO_FILE_BYTES, 9230);
+    same("sizes", 0, CORKBINGO_SIZES_WORDS, 12);
+    same("session", 0, CORKBINGO_SESSION_WORDS, 14);
+    same("position", 0, CORKBINGO_SESSION_POSITION, 12);
+    same("mark", 0, CORKBINGO_SESSION_MARK, 13);
+    same("grid", 0, CORKBINGO_GRID_WORDS, 14);
+    same("G", 0, CORKBINGO_GRID_SIZE, 13);
+    same("answer of continue", 0, CORKBINGO_CONTINUE_WORDS, 17);
+    same("output 1", 0, CORKBINGO_ANSWER_OUTPUT1, 15);
+    same("output 2", 0, CORKBINGO_ANSWER_OUTPUT2, 16);
+}
+
+/* Makes a call with `length` of each size: it returns 1 at the right one. At the others it returns 0,
+ * and has touched neither `out` nor `session`, which hold 1 in every word. */
+#define LENGTHS(what, right, call)                                            \
+    for (size_t length = 0; length < LONGEST; length++) {                     \
+        for (size_t index = 0; index < LONGEST; index++)                      \
+            out[index] = session[index] = 1;                                  \
+        same(what ", length", length, (call), length == (right));             \
+        for (size_t index = 0; index < LONGEST && length != (right); index++) \
+            same(what ", touched", index, out[index] + session[index], 2);    \
+    }
+
+/* Each slice that has a length of its own, with others; those of earlier versions are among them. */
+static void lengths(void)
+{
+    enum {
+        LONGEST = 2 * CORKBINGO_CONTINUE_WORDS,
+        SIZES = CORKBINGO_SIZES_WORDS,
+        SESSION = CORKBINGO_SESSION_WORDS,
+        ANSWER = CORKBINGO_CONTINUE_WORDS
+    };
+    static const uint64_t given[LONGEST] = {2, 2, 1, 2};
+    uint64_t out[LONGEST], session[LONGEST], scratch[3], cells[8] = {0}, room[8];
+    uint8_t text[CORKBINGO_TEXT_BYTES];
+
+    LENGTHS("check", 3, corkbingo_check(sample, sizeof sample, out, length))
+    LENGTHS("operations", 2, corkbingo_operations(sample, sizeof sample, out, length))
+    LENGTHS("bound", 10, corkbingo_bound(2, out, length))
+    LENGTHS("grid", 14, corkbingo_grid(sample, sizeof sample, out, length))
+    LENGTHS("evaluate", 4, corkbingo_evaluate(sample, sizeof sample, given, 2, scratch, 3, out, length))
+    LENGTHS("table", 3, corkbingo_table(sample, sizeof sample, scratch, 3, room, 8, out, length))
+    LENGTHS("difference", 3, corkbingo_difference(given, SIZES, cells, 8, room, 8, out, length))
+    LENGTHS("sizes of difference", 12, corkbingo_difference(given, length, cells, 8, room, 8, out, 3))
+    LENGTHS("sum", 3, corkbingo_sum(given, SIZES, cells, 8, room, 8, out, length))
+    LENGTHS("sizes of sum", 12, corkbingo_sum(given, length, cells, 8, room, 8, out, 3))
+    LENGTHS("open", 3, corkbingo_open(sample, sizeof sample, zero, sizeof zero, session, SESSION, out, length))
+    LENGTHS("session of open", 14,
+            corkbingo_open(sample, sizeof sample, zero, sizeof zero, session, length, out, 3))
+    LENGTHS("continue", 17, corkbingo_continue(sample, sizeof sample, zero, sizeof zero, session, SESSION, 1,
+                                               scratch, 3, out, length))
+    LENGTHS("session of continue", 14, corkbingo_continue(sample, sizeof sample, zero, sizeof zero, session, length,
+                                                          1, scratch, 3, out, ANSWER))
+    LENGTHS("report", 1, corkbingo_report(sample, sizeof sample, zero, sizeof zero, given, ANSWER, 1, text,
+                                          sizeof text, out, length))
+    LENGTHS("answer of report", 17, corkbingo_report(sample, sizeof sample, zero, sizeof zero, given, length, 1, text,
+                                                     sizeof text, out, 1))
 }
 
 /* Every call with empty slices whose pointers are null: an answer or a refusal where the slice may
@@ -210,7 +357,7 @@ int main(void)
     static const uint64_t stretch[CORKBINGO_OPERATIONS_WORDS] = {12, 3};
     static const uint64_t least[CORKBINGO_BOUND_WORDS] = {0, 0, 0, 18, 9, 4, 2, 1, 0, 0};
     static const uint64_t no_bound[CORKBINGO_BOUND_WORDS] = {2, 0, 0, 0, 0, 0, 0, 0, 0, 0};
-    static const uint64_t grid[CORKBINGO_GRID_WORDS] = {0, 0, 0, 2, 4, 0, 0, 0, 0, 0, 0, 8};
+    static const uint64_t grid[CORKBINGO_GRID_WORDS] = {0, 0, 0, 2, 4, 0, 0, 0, 0, 0, 0, 0, 0, 8};
     static const uint64_t output[CORKBINGO_EVALUATE_WORDS] = {0, 0, 0, 3};
     static const uint64_t cleared[4] = {0, 0, 0, 7};
     static const uint64_t vector[2] = {1, 3};
@@ -242,6 +389,9 @@ int main(void)
 
     tables();
     sessions();
+    ten_inputs();
+    names();
+    lengths();
     empty();
 
     if (failures == 0)

@@ -13,15 +13,16 @@
 #include <string.h>
 #include <sys/mman.h>
 
-enum { PAGE = 4096, PAINT = 0xa5, LONGEST = 12 + 9 * CORKBINGO_STEPS, MOST = 96 * 1024 };
+enum { PAGE = 4096, PAINT = 0xa5, MOST = 96 * 1024 };
 
 static unsigned char *stack;
 static size_t deepest, own;
 static unsigned calls, failures;
 
 /* What the calls work on. */
-static uint8_t files[2][LONGEST];
+static uint8_t files[2][CORKBINGO_FILE_BYTES];
 static size_t lengths[2];
+static uint64_t sizes[CORKBINGO_SIZES_WORDS];
 static uint64_t session[CORKBINGO_SESSION_WORDS], answer[CORKBINGO_CONTINUE_WORDS];
 static uint64_t out[CORKBINGO_CONTINUE_WORDS], scratch[CORKBINGO_STEPS];
 static uint64_t cells[2][4096];
@@ -101,9 +102,9 @@ static void *by_grid(void *ignored)
 
 static void *by_evaluate(void *ignored)
 {
-    static const uint64_t vector[2] = {1, 1};
-    uint32_t returned = corkbingo_evaluate(files[0], lengths[0], vector, 2, scratch, CORKBINGO_STEPS, out,
-                                           CORKBINGO_EVALUATE_WORDS);
+    static const uint64_t vector[CORKBINGO_INPUTS] = {1, 1};
+    uint32_t returned = corkbingo_evaluate(files[0], lengths[0], vector, sizes[CORKBINGO_SESSION_D], scratch,
+                                           CORKBINGO_STEPS, out, CORKBINGO_EVALUATE_WORDS);
     check("evaluate", returned == 1 && out[0] == 0);
     return ignored;
 }
@@ -118,7 +119,6 @@ static void *by_table(void *ignored)
 
 static void *by_sum(void *ignored)
 {
-    static const uint64_t sizes[CORKBINGO_SIZES_WORDS] = {16, 2, 16, 16};
     uint32_t returned = corkbingo_sum(sizes, CORKBINGO_SIZES_WORDS, cells[0], 4096, cells[1], 4096, out,
                                       CORKBINGO_SUM_WORDS);
     check("sum", returned == 1 && out[0] == 0);
@@ -153,34 +153,45 @@ static void *by_report(void *ignored)
     return ignored;
 }
 
-/* A file of n steps with m 16 and two inputs of 16 bits, 18 * 18 vectors: both inputs, and then sums of
- * the step before with the inputs in turn. Where `last` is not 0, it is a constant that is added at
- * the end. */
+/* Sizes with m 16 and d inputs of so many bits. */
+static void resize(size_t d, uint64_t bits)
+{
+    memset(sizes, 0, sizeof sizes);
+    sizes[CORKBINGO_SESSION_M] = 16;
+    sizes[CORKBINGO_SESSION_D] = d;
+    for (size_t i = 0; i < d; i++)
+        sizes[CORKBINGO_SESSION_WIDTHS + i] = bits;
+}
+
+/* A file of these sizes and n steps: the first input, the last one, and then sums of the step before
+ * with the two in turn. Where `last` is not 0, it is a constant that is added at the end. */
 static void fill(int which, size_t n, uint64_t last)
 {
-    uint8_t *file = files[which], *arguments = file + 12 + n;
+    size_t d = sizes[CORKBINGO_SESSION_D], head = CORKBINGO_HEAD_BYTES(d);
+    uint8_t *file = files[which], *operations = file + head, *arguments = operations + n;
 
-    lengths[which] = 12 + 9 * n;
+    lengths[which] = head + 9 * n;
     memset(file, 0, lengths[which]);
-    file[0] = 16;
-    file[1] = 2;
+    file[0] = sizes[CORKBINGO_SESSION_M];
+    file[1] = d;
     file[2] = n % 256;
     file[3] = n / 256;
-    file[4] = file[5] = 16;
+    for (size_t i = 0; i < d; i++)
+        file[4 + i] = sizes[CORKBINGO_SESSION_WIDTHS + i];
     for (size_t k = 0; k < n; k++) {
         uint64_t left = k - 1, right = k % 2, argument = left + (right << 16);
 
         if (k < 2) {
-            file[12 + k] = 1;
-            argument = k;
+            operations[k] = 1;
+            argument = k * (d - 1);
         } else if (last != 0 && k == n - 2) {
-            file[12 + k] = 2;
+            operations[k] = 2;
             argument = last;
         } else if (last != 0 && k == n - 1) {
-            file[12 + k] = 3;
+            operations[k] = 3;
             argument = (k - 2) + ((k - 1) << 16);
         } else {
-            file[12 + k] = 3 + k % 3;
+            operations[k] = 3 + k % 3;
         }
         for (int i = 0; i < 8; i++)
             arguments[8 * k + i] = argument >> (8 * i) & 255;
@@ -197,7 +208,7 @@ static void resume(const char *what, uint64_t vectors, uint64_t kind)
 /* Every call on files of n1 and n2 steps. */
 static void all(size_t n1, size_t n2)
 {
-    printf("%zu and %zu steps\n", n1, n2);
+    printf("%zu and %zu steps, %d inputs\n", n1, n2, (int)sizes[CORKBINGO_SESSION_D]);
     fill(0, n1, 0);
     fill(1, n2, 0);
     run("check", by_check);
@@ -241,8 +252,12 @@ int main(void)
     stack = room + PAGE;
     own = used(by_nothing);
     run("bound", by_bound);
-    for (size_t i = 0; i < sizeof counts / sizeof counts[0]; i++)
+    for (size_t i = 0; i < sizeof counts / sizeof counts[0]; i++) {
+        resize(2, 16); /* 18 * 18 vectors */
         all(counts[i][0], counts[i][1]);
+        resize(CORKBINGO_INPUTS, 1); /* 1,024 */
+        all(counts[i][0], counts[i][1]);
+    }
     if (failures > 0)
         return 1;
     printf("ok stack: %u calls, at most %zu of %d bytes, and %zu of the thread's own\n", calls, deepest,

@@ -86,7 +86,8 @@ class Datapath:
         return self.made[step]
 
     def file(self):
-        head = bytes([self.m, len(self.widths)]) + len(self.steps).to_bytes(2, "little") + bytes(self.widths).ljust(8, b"\0")
+        d = len(self.widths)
+        head = bytes([self.m, d]) + len(self.steps).to_bytes(2, "little") + bytes(self.widths).ljust(8 if d <= 8 else 10, b"\0")
         arguments = [s[1] if s[0] in (INPUT, CONSTANT) else s[1] | s[2] << 16 for s in self.steps]
         return head + bytes(s[0] for s in self.steps) + b"".join(a.to_bytes(8, "little") for a in arguments)
 

@@ -4,7 +4,8 @@
  *   harness once PAIR.so PRODUCT.so EARLIER.so|- BUDGET WAY             one comparison, inside `counted`
  *
  * The ways: 0 the product, by opening and continuing with the budget; 1 the plain loop, or the earlier product where one is given; 2 the C
- * called for each vector; 3 the C over the grid. Each comparison must find the pair's first difference, or the exit status is 1.
+ * called for each vector; 3 the C over the grid. Each comparison must find the pair's first difference, or the exit status is 1. An earlier
+ * product that does not take so many inputs is left out: its time is '-'.
  */
 #define _POSIX_C_SOURCE 200809L
 #include <dlfcn.h>
@@ -13,7 +14,6 @@
 #include <string.h>
 #include <time.h>
 
-#include "../include/corkbingo.h"
 #include "harness.h"
 
 enum { PRODUCT, PLAIN, PER_VECTOR, OVER_GRID, WAYS };
@@ -21,8 +21,8 @@ static const char *const names[WAYS] = {"product", "plain loop", "C for each vec
 
 struct library {
     void *handle;
-    __typeof__(corkbingo_open) *open;
-    __typeof__(corkbingo_continue) *resume;
+    __typeof__(by_session) *by_session;
+    const uint64_t *most_inputs;
 };
 
 static const struct pair *pair;
@@ -44,17 +44,12 @@ static void step(uint64_t *vector) {
     }
 }
 
-/* The product: the place at which a session of the two files ends. */
-static uint64_t by_session(const struct library *l) {
-    uint64_t session[CORKBINGO_SESSION_WORDS], refusal[CORKBINGO_OPEN_WORDS], answer[CORKBINGO_CONTINUE_WORDS];
-    l->open(pair->file[0], pair->length[0], pair->file[1], pair->length[1], session, CORKBINGO_SESSION_WORDS, refusal, CORKBINGO_OPEN_WORDS);
-    do
-        l->resume(pair->file[0], pair->length[0], pair->file[1], pair->length[1], session, CORKBINGO_SESSION_WORDS, budget, scratch, 1024,
-                  answer, CORKBINGO_CONTINUE_WORDS);
-    while (answer[CORKBINGO_ANSWER_KIND] == CORKBINGO_KIND_SPENT);
-    if (answer[CORKBINGO_ANSWER_KIND] == CORKBINGO_KIND_REFUSED)
-        fail("the pair is refused");
-    return session[CORKBINGO_SESSION_POSITION] - (answer[CORKBINGO_ANSWER_KIND] == CORKBINGO_KIND_DIFFERS);
+/* The product. */
+static uint64_t by_library(const struct library *l) {
+    uint64_t place = l->by_session(pair, budget, scratch);
+    if (place == NO_PLACE)
+        fail("the pair is refused, or the header is not the library's");
+    return place;
 }
 
 /* The plain loop: a file's steps interpreted from its bytes. */
@@ -70,9 +65,9 @@ static uint64_t le64(const uint8_t *bytes) {
     return le32(bytes) | le32(bytes + 4) << 32;
 }
 
-static uint64_t step_word(const uint8_t *file, size_t n, const uint64_t *vector, size_t k) {
-    uint8_t operation = file[12 + k];
-    uint64_t a = le64(file + 12 + n + 8 * k);
+static uint64_t step_word(const uint8_t *operations, size_t n, const uint64_t *vector, size_t k) {
+    uint8_t operation = operations[k];
+    uint64_t a = le64(operations + n + 8 * k);
     if (operation == 1)
         return vector[a];
     if (operation == 2)
@@ -87,13 +82,14 @@ static uint64_t step_word(const uint8_t *file, size_t n, const uint64_t *vector,
 
 static uint64_t output_at(const uint8_t *file, const uint64_t *vector) {
     size_t n = le16(file + 2);
+    const uint8_t *operations = file + (file[1] > 8 ? 14 : 12);
     for (size_t k = 0; k < n; k++)
-        scratch[k] = step_word(file, n, vector, k);
+        scratch[k] = step_word(operations, n, vector, k);
     return scratch[n - 1] & UINT64_MAX >> (64 - file[0]);
 }
 
 static uint64_t interpreted(void) {
-    uint64_t vector[8] = {0}, place = 0;
+    uint64_t vector[MOST_INPUTS] = {0}, place = 0;
     for (; place < pair->grid && output_at(pair->file[0], vector) == output_at(pair->file[1], vector); place++)
         step(vector);
     return place;
@@ -101,7 +97,7 @@ static uint64_t interpreted(void) {
 
 /* The C: the first difference from the vector at a place on. */
 static uint64_t compiled_from(uint64_t place) {
-    uint64_t vector[8] = {0}, rest = place;
+    uint64_t vector[MOST_INPUTS] = {0}, rest = place;
     for (uint64_t i = pair->d; i-- > 0; rest /= pair->axes[i])
         vector[i] = rest % pair->axes[i];
     for (; place < pair->grid && pair->form[0](vector) == pair->form[1](vector); place++)
@@ -111,11 +107,16 @@ static uint64_t compiled_from(uint64_t place) {
 
 static uint64_t compare(int way) {
     switch (way) {
-    case PRODUCT: return by_session(&product);
-    case PLAIN: return earlier.handle ? by_session(&earlier) : interpreted();
+    case PRODUCT: return by_library(&product);
+    case PLAIN: return earlier.handle ? by_library(&earlier) : interpreted();
     case PER_VECTOR: return compiled_from(0);
     default: return compiled_from(pair->first_row());
     }
+}
+
+/* Whether the pair can be compared in this way. */
+static int can(int way) {
+    return way != PLAIN || !earlier.handle || pair->d <= *earlier.most_inputs;
 }
 
 /* Runs comparisons in one way; the instructions counted are those inside. */
@@ -153,8 +154,8 @@ static void *load(const char *path, const char *symbol, void **handle) {
 
 static struct library library(const char *path) {
     struct library l;
-    l.open = load(path, "corkbingo_open", &l.handle);
-    l.resume = dlsym(l.handle, "corkbingo_continue");
+    l.by_session = load(path, "by_session", &l.handle);
+    l.most_inputs = dlsym(l.handle, "most_inputs");
     return l;
 }
 
@@ -167,10 +168,15 @@ int main(int count, char **words) {
     if (strcmp(words[4], "-") != 0)
         earlier = library(words[4]);
     budget = strtoull(words[5], NULL, 10);
-    if (strcmp(words[1], "once") == 0)
-        counted(atoi(words[6]), 1);
-    else
-        for (int way = 0; way < WAYS; way++)
+    if (strcmp(words[1], "once") == 0) {
+        if (can(atoi(words[6])))
+            counted(atoi(words[6]), 1);
+        return 0;
+    }
+    for (int way = 0; way < WAYS; way++)
+        if (can(way))
             printf("%.3f\n", sample(way, atof(words[6]) * 1e6));
+        else
+            printf("-\n");
     return 0;
 }

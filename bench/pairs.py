@@ -1,7 +1,7 @@
 """The pairs that bench/engine compares: models of the rows of document 002's tables I and II, and others."""
 
 from functools import reduce
-from math import pi, sqrt
+from math import cos, pi, sqrt
 from operator import add
 
 from datapaths import Pair, coefficients, expanded, falling, falling_product, horner, nest, vanishing, volterra
@@ -104,7 +104,7 @@ TABLE_2 = [
     Pair("PSK, early", [11, 14], 16, PSK, horner(lambda x1, x2: PSK(x1, x2) + 2**15 * x1 * x2, 1, 0), (1, 1)),
 ]
 
-# Grids of other shapes: the last input takes 2, 4, 28, 18, 18, 8 and 66 values.
+# Grids of other shapes: the last input takes 2, 4, 28, 18, 18, 8, 66 and 8 values.
 
 
 def mixer(s1, s2, s3, s4, g1, g2, g3, g4):
@@ -133,6 +133,21 @@ def packed(real, imaginary):
 
 WIDE = volterra(3, 3, seed=5)
 
+# The first half of a Hamming window of ten samples, with 14 fraction bits.
+TAPER = [round(2**14 * (0.54 - 0.46 * cos(2 * pi * i / 9))) for i in range(5)]
+
+
+def beam(*x):
+    """Ten samples, each times its weight in the window."""
+    return reduce(add, [w * xi for w, xi in zip(TAPER + TAPER[::-1], x)])
+
+
+def beam_folded(*x):
+    """The window is symmetric: one product for the two samples of a weight, and a tree of sums."""
+    a, b, c, d, e = [w * (x[i] + x[9 - i]) for i, w in enumerate(TAPER)]
+    return ((a + b) + (c + d)) + e
+
+
 SHAPES = [
     Pair("Mixer, 1-bit gains", [3] * 4 + [1] * 4, 16, mixer, mixer_in_twos),
     Pair("Mixer, 2-bit gains", [2] * 8, 16, mixer, mixer_in_twos),
@@ -141,6 +156,7 @@ SHAPES = [
     Pair("Complex multiply, imaginary", [8] * 4, 16, lambda a, b, c, d: a * d + b * c, lambda a, b, c, d: c * (a + b) + a * (d - c)),
     Pair("Complex multiply, both", [6, 6, 3, 3], 32, lambda *x: packed(*four_products(*x)), lambda *x: packed(*three_products(*x))),
     Pair("Cubic filter, 64 bits", [64] * 3, 64, WIDE, horner(WIDE, 2, 0, 1)),
+    Pair("Beam of ten samples", [2] * 8 + [3] * 2, 16, beam, beam_folded),
 ]
 
 # Blocks of 900 to 1,024 steps in both forms.

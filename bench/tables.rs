@@ -40,6 +40,9 @@ type Call = unsafe extern "C" fn(
     usize,
 ) -> u32;
 
+/// The words of sizes: m, d and ten word lengths.
+const SIZES: usize = 12;
+
 /// One line of the plain loop: u − 1 rounds of the neighbour taken away or added, from the end.
 fn plain_line(cells: &mut [u64], start: usize, stride: usize, u: usize, subtract: bool) {
     for round in 1..u {
@@ -70,12 +73,12 @@ fn plain(from: &[u64], to: &mut [u64], axes: &[usize], m: u32, subtract: bool) {
     to.iter_mut().for_each(|cell| *cell &= mask);
 }
 
-fn library(call: Call, sizes: &[u64; 10], from: &[u64], to: &mut [u64]) {
+fn library(call: Call, sizes: &[u64; SIZES], from: &[u64], to: &mut [u64]) {
     let mut out = [1u64; 3];
     let right = unsafe {
         call(
             sizes.as_ptr(),
-            10,
+            SIZES,
             from.as_ptr(),
             from.len(),
             to.as_mut_ptr(),
@@ -95,7 +98,7 @@ fn timed(run: &mut dyn FnMut()) -> f64 {
 
 fn row(m: u32, n: u64, axes: &[usize], rounds: usize) {
     let size: usize = axes.iter().product();
-    let mut sizes = [0u64; 10];
+    let mut sizes = [0u64; SIZES];
     sizes[0] = u64::from(m);
     sizes[1] = axes.len() as u64;
     sizes[2..2 + axes.len()].fill(n);
@@ -123,7 +126,7 @@ fn row(m: u32, n: u64, axes: &[usize], rounds: usize) {
         assert_eq!(ours, theirs, "{name} differs from the plain loop");
         let unit = (size * axes.len()) as f64;
         println!(
-            "{name:10} m {m:2} axes {:14} {:9.2} ns {:9.2} ns   ratio {:.2}",
+            "{name:10} m {m:2} axes {:19} {:9.2} ns {:9.2} ns   ratio {:.2}",
             axes.iter()
                 .map(usize::to_string)
                 .collect::<Vec<_>>()
@@ -149,4 +152,5 @@ fn main() {
     row(32, 32, &[34, 34, 34], 40);
     row(64, 64, &[66, 66, 66], 10);
     row(3, 2, &[4, 4, 4, 4, 4, 4, 4, 4], 40);
+    row(3, 1, &[2; 10], 2000);
 }

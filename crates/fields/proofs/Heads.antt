@@ -18,6 +18,14 @@ pub widths-many : (d : ℕ) → shortInputs < d → widthBytes d ≡ maxInputs
 unfolding widthBytes
 widths-many d l = rw (lt-leb d shortInputs l)
 
+-- a head that is not short is long
+pub widths-long : (d : ℕ) → ¬ (widthBytes d ≡ shortInputs) → widthBytes d ≡ maxInputs
+widths-long d n =
+    elim (decLt shortInputs d) [
+      | yes l ↦ widths-many d l
+      | no m ↦ absurd (n (widths-few d (omega arith)))
+    ]
+
 pub headLengths : HeadLengths
 headLengths = record { short = λ d l. ap (λ n. widthsFrom + n) (widths-few d l); long = λ d l. ap (λ n. widthsFrom + n) (widths-many d l) }
 

@@ -13,12 +13,13 @@
 --   leftOperand a, rightOperand a
 --                    of an argument: the left step in the low 16 bits, and the right step in the next 16
 --   operationsOf s   the operation bytes
+--   HasStep s n k    s has n steps, and its length is that of its head and 9N; step k is one of these
 use mathlib.Core.Bool.{cond}
 use mathlib.Core.List.{List}
 use mathlib.Core.Path.{_≡_}
 use Prim.Native.Nat.{ℕ, _+_, _*_, _/_, _%_, _^_, _≤_, _<_}
 use lib.Dec.{leb}
-use lib.ListN.{getD, take, drop}
+use lib.ListN.{length, getD, take, drop}
 use Rattle.sizes.specs.declared.Sizes.{Sizes}
 use Rattle.sizes.specs.Padded.{padded}
 use Rattle.sizes.specs.Sizes.{maxInputs}
@@ -70,3 +71,8 @@ rightOperand a = a / 2 ^ 16 % 2 ^ 16
 
 unfoldable pub operationsOf : List ℕ → List ℕ
 operationsOf s = take (stepCount s) (drop (headOf s) s)
+
+pub record HasStep (s : List ℕ) (n k : ℕ) : Type 0 where
+  pub count : n ≡ stepCount s
+  pub size : length s ≡ headOf s + 9 * n
+  pub inside : k < n

@@ -20,6 +20,7 @@ ghost use Rattle.fields.specs.File.{
   argument,
   leftOperand,
   rightOperand,
+  HasStep,
 };
 ghost use Rattle.fields.specs.Steps.{stepAt};
 
@@ -72,7 +73,7 @@ pub fn head_length(file: &[u8]) -> usize
     WIDTHS + width_bytes(input_count(file))
 }
 
-// The first `count` word-length bytes, and 0 after them.
+// The first `count` word-length bytes, and 0 after them. It is called with constants, so that it is compiled for each.
 fn read_widths(file: &[u8], count: usize) -> [u8; INPUTS]
     requires { ⌜ (count ≤ maxInputs) × (widthsFrom + count ≤ length (now file)) ⌝ }
     ensures { λ r. ⌜ r ≡ padded (take count (drop widthsFrom (now (file .entry)))) ⌝ }
@@ -86,12 +87,24 @@ fn read_widths(file: &[u8], count: usize) -> [u8; INPUTS]
     widths
 }
 
+// The word lengths, with 0 for those that the head does not have.
+fn word_lengths(file: &[u8]) -> [u8; INPUTS]
+    requires { ⌜ headOf (now file) ≤ length (now file) ⌝ }
+    ensures { λ r. ⌜ r ≡ sizesOf (now (file .entry)) .widths ⌝ }
+{
+    let count = width_bytes(input_count(file));
+    if count == SHORT_INPUTS {
+        return read_widths(file, SHORT_INPUTS);
+    }
+    read_widths(file, INPUTS)
+}
+
 // m, d and the word lengths.
 pub fn read_sizes(file: &[u8]) -> Sizes
     requires { ⌜ headOf (now file) ≤ length (now file) ⌝ }
     ensures { λ r. ⌜ r ≡ sizesOf (now (file .entry)) ⌝ }
 {
-    let widths = read_widths(file, width_bytes(input_count(file)));
+    let widths = word_lengths(file);
     Sizes {
         m: output_length(file) as u8,
         d: file[1],
@@ -107,20 +120,21 @@ pub fn step_count(file: &[u8]) -> usize
     le16(file, 2) as usize
 }
 
-// The operation byte of step k.
-pub fn operation(file: &[u8], k: usize) -> u8
-    requires { ⌜ headOf (now file) + k < length (now file) ⌝ }
+// The operation byte of step k, given N. It is counted from the end of the file, where the steps stand whatever the
+// head: what the engine does for each step reads nothing of the head.
+pub fn operation(file: &[u8], n: usize, k: usize) -> u8
+    requires { ⌜ HasStep (now file) n k ⌝ }
     ensures { λ r. ⌜ (r ≡ operation (now (file .entry)) k) × (r < 2 ^ 8) ⌝ }
 {
-    file[head_length(file) + k]
+    file[file.len() - 9 * n + k]
 }
 
-// The argument of step k, given N.
+// The argument of step k, given N, counted from the end of the file too.
 pub fn argument(file: &[u8], n: usize, k: usize) -> u64
-    requires { ⌜ (n ≡ stepCount (now file)) × (headOf (now file) + n + 8 * k + 8 ≤ length (now file)) ⌝ }
+    requires { ⌜ HasStep (now file) n k ⌝ }
     ensures { λ r. ⌜ (r ≡ argument (now (file .entry)) k) × (r < 2 ^ 64) ⌝ }
 {
-    le64(file, head_length(file) + n + 8 * k)
+    le64(file, file.len() - 8 * n + 8 * k)
 }
 
 // Of an argument of 64 bits: the left step, in the low 16 bits.
@@ -140,10 +154,10 @@ pub fn right_operand(a: u64) -> usize
 // Step k, given N, decoded from its operation byte and its argument. An operation byte past 5, which no accepted file
 // has, reads as 5.
 pub fn step_at(file: &[u8], n: usize, k: usize) -> Step
-    requires { ⌜ (n ≡ stepCount (now file)) × (headOf (now file) + n + 8 * k + 8 ≤ length (now file)) ⌝ }
+    requires { ⌜ HasStep (now file) n k ⌝ }
     ensures { λ r. ⌜ r ≡ stepAt (now (file .entry)) k ⌝ }
 {
-    let op = operation(file, k);
+    let op = operation(file, n, k);
     let a = argument(file, n, k);
     if op == 1 {
         return Step::Input(a as usize);

@@ -88,7 +88,7 @@ pub fn step_fault(file: &[u8], z: Sizes, n: usize, k: usize) -> u64
     requires { ⌜ Headed (now file) z n × (k < n) ⌝ }
     ensures { λ r. ⌜ r ≡ stepFault (now (file .entry)) k ⌝ }
 {
-    let o = operation(file, k);
+    let o = operation(file, n, k);
     if !within(1, 5, o as u64) {
         return 7;
     }

@@ -6,7 +6,7 @@ use row_lanes::set_column;
 use rows::LANES;
 use rows::copy_row;
 use sizes::INPUTS;
-use vectors::next_vector;
+use vectors::advance;
 use vectors::vector_at;
 ghost use Prim.Native.Nat.{_≤_};
 ghost use lib.ListN.{take};
@@ -38,8 +38,7 @@ pub fn set_lanes(inputs: &mut [u64], axes: [u64; INPUTS], d: usize, p: u64, live
     set_column(inputs, 0, v, w);
     let mut l = 1;
     while l < live {
-        let next = next_vector(axes, d, v);
-        v = next;
+        advance(axes, d, &mut v);
         set_column(inputs, l, v, w);
         l += 1;
     }

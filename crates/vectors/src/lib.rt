@@ -2,7 +2,7 @@
 use sizes::INPUTS;
 ghost use mathlib.Core.Path.{_≡_};
 ghost use Prim.Native.Nat.{_≤_, _<_};
-ghost use lib.ListN.{take};
+ghost use lib.ListN.{length, take};
 ghost use Rattle.places.specs.Places.{size, vectorAt};
 ghost use Rattle.sizes.specs.Sizes.{maxInputs};
 ghost use Rattle.sizes.specs.Padded.{padded};
@@ -26,24 +26,34 @@ pub fn vector_at(axes: [u64; INPUTS], d: usize, p: u64) -> [u64; INPUTS]
     v
 }
 
-// The vector one place after v, one of the grid's vectors: from the last input backwards, an input at its last value
-// goes to 0, and the first that isn't goes up by 1. Where v is the last vector of all, nothing is promised of the
-// answer.
+// v, one of the grid's vectors, becomes the one at the next place: from the last input backwards, an input at its last
+// value goes to 0, and the first that isn't goes up by 1. Where v is the last vector of all, nothing is promised of what
+// it becomes.
+pub fn advance(axes: [u64; INPUTS], d: usize, v: &mut [u64])
+    requires { ⌜ (d ≤ maxInputs) × (d ≤ length (now v)) ⌝ }
+    requires { ⌜ Placed (take d axes) (now v) ⌝ }
+    ensures { λ _. ⌜ Next (take d axes) (now (v .entry)) (now (v .exit)) ⌝ }
+{
+    let mut i = d;
+    while 0 < i {
+        i -= 1;
+        let x = v[i] + 1;
+        if x < axes[i] {
+            v[i] = x;
+            return;
+        }
+        v[i] = 0;
+    }
+}
+
+// The vector one place after v, one of the grid's vectors. Where v is the last vector of all, nothing is promised of
+// the answer.
 pub fn next_vector(axes: [u64; INPUTS], d: usize, v: [u64; INPUTS]) -> [u64; INPUTS]
     requires { ⌜ d ≤ maxInputs ⌝ }
     requires { ⌜ Placed (take d axes) v ⌝ }
     ensures { λ r. ⌜ Next (take d axes) v r ⌝ }
 {
     let mut next = v;
-    let mut i = d;
-    while 0 < i {
-        i -= 1;
-        let x = next[i] + 1;
-        if x < axes[i] {
-            next[i] = x;
-            return next;
-        }
-        next[i] = 0;
-    }
+    advance(axes, d, &mut next);
     next
 }

@@ -1,7 +1,7 @@
 -- `batches::set_lanes` meets its contract. The loop's invariant: v is the vector of the last lane set, and the lanes set hold theirs,
 -- and the others are as where the loop begins.
 -- Assumes nothing.
-use mathlib.Core.Path.{_≡_, refl, _∙_, ap}
+use mathlib.Core.Path.{_≡_, refl, sym, _∙_, ap}
 use mathlib.Core.Logic.{⊎-elim}
 use mathlib.Core.List.{List}
 use Prim.Native.Nat.{ℕ, _+_, _-_, _≤_, _<_}
@@ -23,10 +23,11 @@ record Columns (w : ℕ) (us : List ℕ) (p live : ℕ) (inputs₀ inputs v : Li
   within : l ≤ live
   long : length inputs ≡ length inputs₀
   vector : v ≡ padded (vectorAt us (p + (l - 1)))
+  whole : length v ≡ maxInputs
   columns : (i k : ℕ) → i < maxInputs → k < l → lane w inputs i k ≡ getD (vectorAt us (p + k)) i 0
   others : (i k : ℕ) → l ≤ k → k < w → lane w inputs i k ≡ lane w inputs₀ i k
 
-module _ (w : ℕ) (us : List ℕ) (p live : ℕ) (inputs₀ inputs' v : List ℕ) (long : length inputs' ≡ length inputs₀) (room : live ≤ w) where
+module _ (w : ℕ) (us : List ℕ) (p live : ℕ) (inputs₀ inputs' v : List ℕ) (long : length inputs' ≡ length inputs₀) (room : live ≤ w) (whole : length v ≡ maxInputs) where
   -- lane l is set to the vector v at place q = p + l
   more :
       (inputs : List ℕ) (l q : ℕ) → l < live → v ≡ padded (vectorAt us q) → q ≡ p + l → ((i : ℕ) → i < maxInputs → lane w inputs' i l ≡ getD v i 0) →
@@ -40,6 +41,7 @@ module _ (w : ℕ) (us : List ℕ) (p live : ℕ) (inputs₀ inputs' v : List �
         within = omega arith;
         long = long;
         vector = rw (back, ← at) e;
+        whole = whole;
         columns = λ i k hi hk. ⊎-elim
             (λ (same : k ≡ l). rw (same, ← at) (here i hi ∙ ap (λ w. getD w i 0) e ∙ padded-entry (vectorAt us q) i))
             (λ (less : k < l). others i k (omega arith) (λ same. omega arith) ∙ before i k hi less)
@@ -59,6 +61,10 @@ Inv-loop inputs₀ axes d p live w v₀ l₀ inputs v l = Columns w (take d axes
 abbrev μ-loop : tie.MeasureT-loop
 μ-loop inputs₀ axes d p live w v₀ l₀ inputs v l = live - l
 
+-- the entry, from where the loop begins
+abbrev opened : tie.At-loop Inv-loop μ-loop → tie.Start Inv-loop μ-loop
+opened h = h .before .before .before .before .before .before .before
+
 vector-at-requires : tie.Need-vector-at-requires Inv-loop μ-loop
 vector-at-requires c κs =
     let q = c .before .pre in
@@ -72,23 +78,31 @@ loop-holds c =
     let entry = c .before .before .before .before .before .before in
     let q = entry .pre in
     let set = c .before .before .set-column .ensures in
-    start _ _ _ _ _ _ _ refl (q .1 .few) (now (entry .args .inputs)) (q .1 .some)
+    start _ _ _ _ _ _ _ refl (q .1 .few) (search needs) (now (entry .args .inputs)) (q .1 .some)
     (c .before .before .before .before .vector-at .ensures) (set .set) (set .others) (λ i k hl hk. refl)
 
-next-vector-requires : tie.Need-next-vector-requires Inv-loop μ-loop
-next-vector-requires c κs =
-    let entry = c .before .before .before .before .before .before .before .before in
+slice-aggregate-advance : tie.Need-slice-aggregate-advance Inv-loop μ-loop
+slice-aggregate-advance c = sym (c .before .before .loop .inv .whole)
+
+advance-requires : tie.Need-advance-requires Inv-loop μ-loop
+advance-requires c κs =
+    let h = c .before .before in
+    let entry = opened h in
     let q = entry .pre in
-    let k = c .before .loop .inv in
-    let p = entry .args .p in
-    (q .0, record { place = p + (c .before .loop .l - 1); inside = omega (arith, q .1 .inside, k .within, k .some); shape = k .vector })
+    let k = h .loop .inv in
+    let p = entry .args .p in (
+      (q .0, omega (arith, q .0, k .whole)),
+      record { place = p + (h .loop .l - 1); inside = omega (arith, q .1 .inside, k .within, k .some, c .before .loop-test .taken); shape = k .vector },
+    )
 
 set-column-requires-2 : tie.Need-set-column-requires-2 Inv-loop μ-loop
 set-column-requires-2 c κs =
-    let q = c .before .before .before .before .before .before .before .before .before .before .pre in
-    let k = c .before .before .before .loop .inv in (
-      omega (arith, q .1 .few, c .before .before .loop-test .taken),
-      omega (arith, q .1 .room, k .long, c .before .before .before .before .before .before .set-column .kept .0),
+    let h = c .before .before .before .before .before in
+    let entry = opened h in
+    let q = entry .pre in
+    let k = h .loop .inv in (
+      omega (arith, q .1 .few, c .before .before .before .before .loop-test .taken),
+      omega (arith, q .1 .room, k .long, h .before .before .before .set-column .kept .0),
     )
 
 add-l : tie.Need-add-l Inv-loop μ-loop
@@ -99,16 +113,18 @@ loop-less c = search needs
 
 loop-again : tie.Need-loop-again Inv-loop μ-loop
 loop-again c =
-    let head = c .before .before .before .before .before .before in
-    let entry = head .before .before .before .before .before .before .before in
-    let q = entry .pre in
-    let k = head .loop .inv in
     let set = c .before .before .set-column2 in
-    let t = c .before .before .before .before .before .loop-test .taken in
+    let arg = c .before .before .before in
+    let h = arg .before .before .before .before .before in
+    let moved = arg .before .before .advance in
+    let entry = opened h in
+    let q = entry .pre in
+    let k = h .loop .inv in
+    let t = arg .before .before .before .before .loop-test .taken in
     let p = entry .args .p in
-    let l = head .loop .l in
-    more _ _ _ _ _ _ _ (set .kept .0 ∙ k .long) (q .1 .few) (head .loop .inputs) l (p + (l - 1) + 1) t
-    (c .before .before .before .before .next-vector .ensures (p + (l - 1)) (omega (arith, q .1 .inside, t, k .some)) (k .vector)) (omega (arith, k .some))
+    let l = h .loop .l in
+    more _ _ _ _ _ _ _ (set .kept .0 ∙ k .long) (q .1 .few) (moved .kept .1 .1 .0 ∙ k .whole) (h .loop .inputs) l (p + (l - 1) + 1) t
+    (moved .ensures (p + (l - 1)) (omega (arith, q .1 .inside, t, k .some)) (k .vector)) (omega (arith, k .some))
     (set .ensures .set) (set .ensures .others) (k .columns)
     (λ i j hl hj. set .ensures .others i j hj (λ same. omega (arith, hl, same)) ∙ k .others i j (omega (arith, hl)) hj)
 
@@ -135,7 +151,8 @@ set-lanes-spec =
     vector-at-requires
     set-column-requires
     loop-holds
-    next-vector-requires
+    slice-aggregate-advance
+    advance-requires
     set-column-requires-2
     add-l
     loop-less

@@ -1,11 +1,11 @@
--- `vectors::next_vector` meets its contract. The loop's invariant: the entries from i on went to 0 from their last values, and the place is
+-- `vectors::advance` meets its contract. The loop's invariant: the entries from i on went to 0 from their last values, and the place is
 -- one block of the size of the axes from i on short of the next.
 -- Assumes nothing.
-use mathlib.Core.Path.{_≡_, sym, _∙_, ap}
+use mathlib.Core.Path.{_≡_, refl, sym, _∙_, ap}
 use mathlib.Core.List.{List}
 use Prim.Native.Nat.{ℕ, suc, _+_, _*_, _-_, _≤_, _<_}
 use native.Mathlib.Omega.{arith}
-use lib.ListN.{length, getD, take, drop, set}
+use lib.ListN.{length, getD, take, drop, set, length-set}
 use lib.Seq.{length-take-le, getD-take}
 use Rattle.places.specs.Places.{size, vectorAt, placeOf}
 use Rattle.places.proofs.Places.{oneToOne}
@@ -15,8 +15,8 @@ use Rattle.vectors.proofs.Digits.{Digits, digit, digit-most, place-set,
 use borrow.Author.Needs.{needs}
 use mir.Syntax.{w64}
 use mir.Val.{Fits}
-use Rattle.vectors.proofs.next_vector.Statement.{statement}
-use Rattle.vectors.proofs.next_vector.Tie as tie
+use Rattle.vectors.proofs.advance.Statement.{statement}
+use Rattle.vectors.proofs.advance.Tie as tie
 
 record Carried (axes : List ℕ) (d : ℕ) (v₀ v : List ℕ) (i : ℕ) : Type 0 where
   within : i ≤ d
@@ -95,29 +95,30 @@ wrapped : (axes : List ℕ) (d : ℕ) (v₀ v : List ℕ) (p : ℕ) → Carried 
 wrapped axes d v₀ v p f h s = omega (arith, f .place, meant f p h s)
 
 abbrev Inv-loop : tie.InvT-loop
-Inv-loop d axes next₀ i₀ next i = Carried axes d next₀ next i
+Inv-loop d v₀ axes i₀ v i = (length v ≡ length v₀) × Carried axes d v₀ v i
 
 abbrev μ-loop : tie.MeasureT-loop
-μ-loop d axes next₀ i₀ next i = i
+μ-loop d v₀ axes i₀ v i = i
 
 loop-holds : tie.Need-loop-holds Inv-loop μ-loop
-loop-holds c = start _ _ _ (length-take-le (c .args .d) (c .args .t1) (search needs)) (c .pre .1)
+loop-holds c = (refl, start _ _ _ (length-take-le (c .args .d) (c .args .t1) (search needs)) (c .pre .1))
 
 sub-i : tie.Need-sub-i Inv-loop μ-loop
 sub-i c = search needs
 
 mul-x : tie.Need-mul-x Inv-loop μ-loop
-mul-x c = search needs
+mul-x c = omega (arith, c .before .loop .inv .1 .within, c .before .before .pre .0)
 
-array-read-x : tie.Need-array-read-x Inv-loop μ-loop
-array-read-x c = search needs
+slice-read-x : tie.Need-slice-read-x Inv-loop μ-loop
+slice-read-x c =
+    let h = c .before .before in
+    omega (arith, h .loop .inv .0, h .loop .inv .1 .within, h .before .pre .0, c .before .loop-test .taken)
 
 add-x : tie.Need-add-x Inv-loop μ-loop
 add-x c =
-    let a = c .before .before .args in
-    let j = c .before .loop .i - 1 in
-    let most : Fits w64 (getD (a .t1) j 0) = search needs in
-    omega (arith, most .fits, below (c .before .loop .inv) (c .loop-test .taken))
+    let h = c .before .before in
+    let most : Fits w64 (getD (h .before .args .t1) (h .loop .i - 1) 0) = search needs in
+    omega (arith, most .fits, below (h .loop .inv .1) (c .before .loop-test .taken))
 
 mul-if1 : tie.Need-mul-if1 Inv-loop μ-loop
 mul-if1 c = search needs
@@ -125,36 +126,46 @@ mul-if1 c = search needs
 array-read-if1 : tie.Need-array-read-if1 Inv-loop μ-loop
 array-read-if1 c = search needs
 
-mul-next : tie.Need-mul-next Inv-loop μ-loop
-mul-next c = search needs
+mul-v : tie.Need-mul-v Inv-loop μ-loop
+mul-v c = omega (arith, c .before .before .before .loop .inv .1 .within, c .before .before .before .before .pre .0)
 
-array-write-next : tie.Need-array-write-next Inv-loop μ-loop
-array-write-next c = search needs
+slice-write-v : tie.Need-slice-write-v Inv-loop μ-loop
+slice-write-v c =
+    let h = c .before .before .before in
+    omega (arith, h .loop .inv .0, h .loop .inv .1 .within, h .before .pre .0, c .before .before .loop-test .taken)
+
+same-length : tie.Need-same-length Inv-loop μ-loop
+same-length c = search needs
 
 returns : tie.Need-returns Inv-loop μ-loop
-returns c =
-    up (c .before .before .loop .inv) (c .before .loop-test .taken) (c .if1 .taken)
+returns c = up (c .before .before .before .loop .inv .1) (c .before .before .loop-test .taken) (c .if1 .taken)
 
-mul-next-2 : tie.Need-mul-next-2 Inv-loop μ-loop
-mul-next-2 c = search needs
+mul-v-2 : tie.Need-mul-v-2 Inv-loop μ-loop
+mul-v-2 c = omega (arith, c .before .before .before .loop .inv .1 .within, c .before .before .before .before .pre .0)
 
-array-write-next-2 : tie.Need-array-write-next-2 Inv-loop μ-loop
-array-write-next-2 c = search needs
+slice-write-v-2 : tie.Need-slice-write-v-2 Inv-loop μ-loop
+slice-write-v-2 c =
+    let h = c .before .before .before in
+    omega (arith, h .loop .inv .0, h .loop .inv .1 .within, h .before .pre .0, c .before .before .loop-test .taken)
 
 loop-less : tie.Need-loop-less Inv-loop μ-loop
 loop-less c = search needs
 
 loop-again : tie.Need-loop-again Inv-loop μ-loop
 loop-again c =
-    carry (c .before .before .loop .inv) (c .before .loop-test .taken) (c .if1 .left)
+    let inv = c .before .before .before .loop .inv in
+    (rw length-set (inv .0), carry (inv .1) (c .before .before .loop-test .taken) (c .if1 .left))
+
+same-length-2 : tie.Need-same-length-2 Inv-loop μ-loop
+same-length-2 c = search needs
 
 returns-2 : tie.Need-returns-2 Inv-loop μ-loop
 returns-2 c =
     let e : c .before .loop .i ≡ 0 = omega arith in
-    λ p h s. absurd (wrapped _ _ _ _ p (rw e at (c .before .loop .inv)) h s)
+    λ p h s. absurd (wrapped _ _ _ _ p (rw e at (c .before .loop .inv .1)) h s)
 
-pub next-vector-spec : {M : Type 1} → statement M
-next-vector-spec =
+pub advance-spec : {M : Type 1} → statement M
+advance-spec =
     tie.close
     (tie.spec
     Inv-loop
@@ -162,15 +173,17 @@ next-vector-spec =
     loop-holds
     sub-i
     mul-x
-    array-read-x
+    slice-read-x
     add-x
     mul-if1
     array-read-if1
-    mul-next
-    array-write-next
+    mul-v
+    slice-write-v
+    same-length
     returns
-    mul-next-2
-    array-write-next-2
+    mul-v-2
+    slice-write-v-2
     loop-less
     loop-again
+    same-length-2
     returns-2)

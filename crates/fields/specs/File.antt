@@ -14,8 +14,16 @@
 --                    of an argument: the left step in the low 16 bits, and the right step in the next 16
 --   operationsOf s   the operation bytes
 --   HasStep s n k    s has n steps, and its length is that of its head and 9N; step k is one of these
+--   Parted s head operations arguments
+--                    s is these three in this order: as many bytes as its head has, a byte for each step, and the rest
+--   FieldsInOrder    each field is read from the part that document 01 has it in. Proved in proofs/Parts:
+--     widths      the word lengths are bytes 4 and on of the head, one by one
+--     unused      and 0 where the head has no more
+--     operations  the operation bytes are the second part
+--     operation   that of step k is its byte k
+--     argument    the argument of step k is in the third part, 8 bytes from its byte 8k on
 use mathlib.Core.Bool.{cond}
-use mathlib.Core.List.{List}
+use mathlib.Core.List.{List, _++_}
 use mathlib.Core.Path.{_≡_}
 use Prim.Native.Nat.{ℕ, _+_, _*_, _/_, _%_, _^_, _≤_, _<_}
 use lib.Dec.{leb}
@@ -76,3 +84,17 @@ pub record HasStep (s : List ℕ) (n k : ℕ) : Type 0 where
   pub count : n ≡ stepCount s
   pub size : length s ≡ headOf s + 9 * n
   pub inside : k < n
+
+pub record Parted (s head operations arguments : List ℕ) : Type 0 where
+  pub whole : s ≡ head ++ (operations ++ arguments)
+  pub headed : length head ≡ headOf s
+  pub counted : length operations ≡ stepCount s
+
+pub record FieldsInOrder : Type 0 where
+  pub widths : (s : List ℕ) (i : ℕ) → 4 + i < headOf s → getD (sizesOf s .widths) i 0 ≡ getD s (4 + i) 0
+  pub unused : (s : List ℕ) (i : ℕ) → headOf s ≤ 4 + i → getD (sizesOf s .widths) i 0 ≡ 0
+  pub operations : (s head ops args : List ℕ) → Parted s head ops args → operationsOf s ≡ ops
+  pub operation :
+      (s head ops args : List ℕ) → Parted s head ops args → (k : ℕ) → k < stepCount s → operation s k ≡ getD ops k 0
+  pub argument :
+      (s head ops args : List ℕ) → Parted s head ops args → (k : ℕ) → argument s k ≡ little 8 args (8 * k)

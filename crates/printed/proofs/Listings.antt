@@ -17,14 +17,14 @@ use Rattle.datapath.specs.Steps.{stepValue, values, exact, output}
 use Rattle.grid_theorem.specs.Comparison.{differsAt, firstDifference}
 use Rattle.words.specs.Bytes.{little}
 use Rattle.text.specs.Decimal.{digitsOf, decimal}
-use Rattle.printed.specs.Listings.{a·dp, b·dp, listingTable, Listings, refusedTable, RefusedListings}
+use Rattle.printed.specs.Listings.{a·dp, b·dp, ten-product, ten-zero, listingTable, Listings, refusedTable, RefusedListings}
 use Rattle.printed.specs.Report.{gridText, verdictText, printed}
 use Rattle.text.specs.Text.{spaced}
 use Rattle.printed.specs.Lines.{refusalLine, gridLine, differLine, equivalentLine, runLine}
 
 -- both tables at once
 computed : Listings × RefusedListings
-unfolding listingTable refusedTable a·dp b·dp
+unfolding listingTable refusedTable a·dp b·dp ten-product ten-zero
     printed gridText verdictText gridLine differLine equivalentLine runLine refusalLine spaced decimal digitsOf
     opened noSession pairRefusal sameSizes outputOf stop firstPlace
     refusalOf shownStep fileNumber headFault tooShort shortOfHead badOutput badInputs badCount badWidths widthRule badLength

@@ -1,6 +1,6 @@
 -- Texts that are to be printed, byte by byte.
 --   Listing       two files, and the text that is to be printed of them
---   listingTable  the table: document 01's files a.dp and b.dp ('Pairs'), b.dp with itself, and two empty files
+--   listingTable  the table: document 01's files a.dp and b.dp ('Pairs'), b.dp with itself, two empty files, and two files of ten inputs
 --   Listings      each text is what is printed
 --   RefusedPair   two files that are refused, with the refusal's number, file and step
 --   refusedTable  the table: document 01's files, damaged so that each of 1 to 9 refuses one or the other, and so that two conditions hold
@@ -30,6 +30,23 @@ a·dp =
 unfoldable pub b·dp : List ℕ
 b·dp = (0x02 ∷ 0x02 ∷ 0x01 ∷ 0x00 ∷ 0x01 ∷ 0x02 ∷ replicate 6 0x00) ++ (0x02 ∷ []) ++ replicate 8 0x00
 
+-- the word lengths of ten inputs
+abbrev ten-widths : List ℕ
+ten-widths = 0x01 ∷ 0x01 ∷ 0x01 ∷ 0x01 ∷ 0x01 ∷ 0x01 ∷ 0x01 ∷ 0x01 ∷ 0x01 ∷ 0x02 ∷ []
+
+-- x9·x10 with m 2, ten inputs, and n10 2 where the others are 1
+unfoldable pub ten-product : List ℕ
+ten-product =
+    (0x02 ∷ 0x0a ∷ 0x03 ∷ 0x00 ∷ ten-widths)
+    ++ (0x01 ∷ 0x01 ∷ 0x05 ∷ [])
+    ++ (0x08 ∷ replicate 7 0x00)
+    ++ (0x09 ∷ replicate 7 0x00)
+    ++ (0x00 ∷ 0x00 ∷ 0x01 ∷ replicate 5 0x00)
+
+-- 0 with the same sizes
+unfoldable pub ten-zero : List ℕ
+ten-zero = (0x02 ∷ 0x0a ∷ 0x01 ∷ 0x00 ∷ ten-widths) ++ (0x02 ∷ []) ++ replicate 8 0x00
+
 unfoldable pub listingTable : List Listing
 listingTable =
     -- grid 2 4 = 8, differ 1 1 : 1 0, run 6
@@ -55,6 +72,19 @@ listingTable =
       file₁ = [];
       file₂ = [];
       text = 0x72 ∷ 0x65 ∷ 0x66 ∷ 0x75 ∷ 0x73 ∷ 0x65 ∷ 0x64 ∷ 0x20 ∷ 0x31 ∷ 0x20 ∷ 0x31 ∷ 0x20 ∷ 0x30 ∷ 0x0a ∷ [];
+    }
+    -- grid 2 2 2 2 2 2 2 2 2 4 = 2048, differ 0 0 0 0 0 0 0 0 1 1 : 1 0, run 6
+    ∷ record {
+      file₁ = ten-product;
+      file₂ = ten-zero;
+      text =
+          (0x67 ∷ 0x72 ∷ 0x69 ∷ 0x64 ∷ [])
+          ++ (0x20 ∷ 0x32 ∷ 0x20 ∷ 0x32 ∷ 0x20 ∷ 0x32 ∷ 0x20 ∷ 0x32 ∷ 0x20 ∷ 0x32 ∷ 0x20 ∷ 0x32 ∷ 0x20 ∷ 0x32 ∷ 0x20 ∷ 0x32 ∷ [])
+          ++ (0x20 ∷ 0x32 ∷ 0x20 ∷ 0x34 ∷ 0x20 ∷ 0x3d ∷ 0x20 ∷ 0x32 ∷ 0x30 ∷ 0x34 ∷ 0x38 ∷ 0x0a ∷ [])
+          ++ (0x64 ∷ 0x69 ∷ 0x66 ∷ 0x66 ∷ 0x65 ∷ 0x72 ∷ [])
+          ++ (0x20 ∷ 0x30 ∷ 0x20 ∷ 0x30 ∷ 0x20 ∷ 0x30 ∷ 0x20 ∷ 0x30 ∷ 0x20 ∷ 0x30 ∷ 0x20 ∷ 0x30 ∷ 0x20 ∷ 0x30 ∷ 0x20 ∷ 0x30 ∷ [])
+          ++ (0x20 ∷ 0x31 ∷ 0x20 ∷ 0x31 ∷ 0x20 ∷ 0x3a ∷ 0x20 ∷ 0x31 ∷ 0x20 ∷ 0x30 ∷ 0x0a ∷ [])
+          ++ (0x72 ∷ 0x75 ∷ 0x6e ∷ 0x20 ∷ 0x36 ∷ 0x0a ∷ []);
     }
     ∷ []
 
@@ -85,7 +115,8 @@ refusedTable =
     ∷ refused (set a·dp 0 0) b·dp 2 1 0
     ∷ refused b·dp (set b·dp 1 11) 3 2 0
     ∷ refused (set (set a·dp 0 0) 1 11) b·dp 2 1 0
-    -- 1, of a head of 13 bytes where d is 9; and m is 0, and N is 0
+    -- 3, of 13 bytes where d is 11; 1, of as many where d is 9; and m is 0, and N is 0
+    ∷ refused b·dp (take 13 (set b·dp 1 11)) 3 2 0
     ∷ refused b·dp (take 13 (set b·dp 1 9)) 1 2 0
     ∷ refused (set (take 13 (set a·dp 1 9)) 0 0) b·dp 2 1 0
     ∷ refused (set (take 13 (set a·dp 1 9)) 2 0) b·dp 1 1 0
@@ -94,6 +125,9 @@ refusedTable =
     ∷ refused (set a·dp 5 65) b·dp 5 1 0
     ∷ refused b·dp (set b·dp 11 1) 5 2 0
     ∷ refused (set (set a·dp 2 0) 5 65) b·dp 4 1 0
+    -- 5. n10 is 2, and d is 9; 6. the length is that of a head of 12 bytes and 9N, and d is 10
+    ∷ refused (set ten-product 1 9) b·dp 5 1 0
+    ∷ refused (take 39 ten-product) b·dp 6 1 0
     -- 6. a byte is missing, and with it the operation of step 1 is 6
     ∷ refused (take 38 (set a·dp 13 6)) b·dp 6 1 0
     -- 7. the operation of step 1 is 6, and file 2 is empty
@@ -107,6 +141,8 @@ refusedTable =
     -- 9. m is 3 in file 2, n2 is 3 in file 2
     ∷ refused a·dp (set b·dp 0 3) 9 0 0
     ∷ refused a·dp (set b·dp 5 3) 9 0 0
+    -- n10 is 1 in file 2
+    ∷ refused ten-product (set ten-zero 13 1) 9 0 0
     ∷ []
 
 abbrev pub RefusedListings : Type 0

@@ -23,7 +23,7 @@ use Rattle.figures.specs.declared.Figures.{Figures}
 use Rattle.figures.proofs.Exactly.{figures-inside, figures-outside}
 use Rattle.file.specs.Accepted.{Accepted}
 use Rattle.file.specs.Check.{fileNumber, refusalOf}
-use Rattle.fields.specs.File.{headLength, sizesOf, stepCount}
+use Rattle.fields.specs.File.{sizesOf, headOf, stepCount}
 use Rattle.fields.proofs.Heads.{length-widths}
 use Rattle.file.proofs.Accepted.{accepted as file-accepted}
 use Rattle.file.proofs.Number.{refusal-number}
@@ -92,7 +92,7 @@ module _ (f o o′ : List ℕ) (h : OperationsCall f o 1 o′) where
   operations-said : o′ ≡ operationWords f
   operations-said = wrote (has 2 o) _ o o′ (h .result) (h .out)
 
-  stretch-said : fileNumber f ≡ 0 → o′ ≡ headLength (sizesOf f .d) ∷ stepCount f ∷ []
+  stretch-said : fileNumber f ≡ 0 → o′ ≡ headOf f ∷ stepCount f ∷ []
   unfolding operationWords
   stretch-said e = operations-said ∙ rw (eq-eqb (fileNumber f) 0 e)
 

@@ -1,8 +1,7 @@
--- What a call that returned 1 answers, for a caller in C, of any words that a C function's contract holds of. A place that hangs on the count
--- of inputs has the header's name (`Offsets` in `layouts` specs/Statement gives the number), and any other is the header's number. It is proved
--- in proofs/, as acceptedInC. The parameters are those of the contracts: what was given and lent, and the slices at exit (with a ′). Word 0 of an
--- answer is the number word; the call is accepted where it is 0. What an accepted continue call says is in specs/Demand3InC, and the refusal words
--- are in specs/SaidInC.
+-- What a call that returned 1 answers, for a caller in C, of any words that a C function's contract holds of. A place that hangs on the most inputs
+-- has a name, whose number is in `layouts` specs/Statement; the others are the header's numbers. It is proved in proofs/, as acceptedInC. The
+-- parameters are those of the contracts: what was given and lent, and the slices at exit (with a ′). Word 0 of an answer is the number word; the
+-- call is accepted where it is 0. What an accepted continue call says is in specs/Demand3InC, and the refusal words are in specs/SaidInC.
 --   Checked f o′         of corkbingo_check:
 --     number       the number word is the file's number: that of the first condition of 1 to 8 that it meets, or 0
 --     sound        it is 0 exactly where the file keeps all rules of a file
@@ -50,7 +49,7 @@ use Rattle.engine.specs.Engine.{largerCount}
 use Rattle.evaluate.specs.Evaluate.{outputOf}
 use Rattle.file.specs.Accepted.{Accepted}
 use Rattle.file.specs.Check.{fileNumber}
-use Rattle.fields.specs.File.{headLength, sizesOf, stepCount}
+use Rattle.fields.specs.File.{sizesOf, headOf, stepCount}
 use Rattle.file_calls.specs.FileCalls.{CheckCall, OperationsCall, EvaluateCall}
 use Rattle.grid.specs.Grid.{axesOf, gridSize}
 use Rattle.grid_calls.specs.GridCalls.{BoundCall, GridCall}
@@ -70,7 +69,7 @@ pub record Checked (f o′ : List ℕ) : Type 0 where
   pub sound : (wordAt o′ 0 ≡ 0) ↔ Accepted f
 
 pub record Stretched (f o′ : List ℕ) : Type 0 where
-  pub start : fileNumber f ≡ 0 → wordAt o′ 0 ≡ headLength (sizesOf f .d)
+  pub start : fileNumber f ≡ 0 → wordAt o′ 0 ≡ headOf f
   pub count : fileNumber f ≡ 0 → wordAt o′ 1 ≡ stepCount f
   pub none : ¬ (fileNumber f ≡ 0) → o′ ≡ 0 ∷ 0 ∷ []
 

@@ -1,6 +1,6 @@
--- Which calls the C functions take, in the header's lengths (those that hang on the count of inputs are numbers in `Offsets`, `layouts`
--- specs/Statement): a call returns 1 exactly where its slices have the lengths of their layouts and the words that it reads of sizes or of a
--- session fit their fields, and 0 otherwise. It is proved in proofs/Taken, as takenInC. The parameters are those of the contracts.
+-- Which calls the C functions take: a call returns 1 exactly where its slices have the lengths of their layouts and the words that it reads of
+-- sizes or of a session fit their fields, and 0 otherwise. A length that hangs on the most inputs has a name, whose number is in `layouts`
+-- specs/Statement; the others are the header's numbers. It is proved in proofs/Taken, as takenInC. The parameters are those of the contracts.
 --   Takes r P             the call returned r: 1 exactly where P holds, and 0 where it does not
 --   SmallWords k w        each of the first k words is below 256
 --   CellsLaid z o         the layout of corkbingo_difference and corkbingo_sum: the words of sizes, all small, and an answer slice of 3

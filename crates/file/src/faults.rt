@@ -21,8 +21,8 @@ ghost use Prim.Native.Nat.{_<_};
 ghost use Rattle.file.specs.Check.{headFault, operandsRule, argumentRule, stepFault, faultyStep};
 ghost use Rattle.file.specs.Headed.{Headed};
 
-// The first of conditions 1 to 6 that holds, or 0. Condition 1 is judged twice: before 2 of a short head, and after 3 of
-// the head that d asks for.
+// The first of conditions 1 to 6 that holds, or 0. Condition 1 is judged twice: before 2 of a short head, and after 3
+// of the head that d asks for.
 pub fn head_fault(file: &[u8]) -> u64
     ensures { λ r. ⌜ r ≡ headFault (now (file .entry)) ⌝ }
 {

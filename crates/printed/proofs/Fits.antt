@@ -42,26 +42,26 @@ decimal-most : (n : ℕ) → n < 2 ^ 64 → length (decimal n) ≤ 20
 decimal-most n h = digits-most 19 n (le-trans h (lit≤ tt))
 
 -- each of the numbers has at most c digits
-abbrev Digits : ℕ → List ℕ → Type 0
-Digits c [] = Unit {0}
-Digits c (n ∷ ns) = (length (decimal n) ≤ c) × Digits c ns
+abbrev FewDigits : ℕ → List ℕ → Type 0
+FewDigits c [] = Unit {0}
+FewDigits c (n ∷ ns) = (length (decimal n) ≤ c) × FewDigits c ns
 
-spaced-most : (c : ℕ) (ns : List ℕ) → Digits c ns → length (spaced ns) ≤ length ns * suc c
+spaced-most : (c : ℕ) (ns : List ℕ) → FewDigits c ns → length (spaced ns) ≤ length ns * suc c
 unfolding spaced
 spaced-most c [] h = omega arith
 spaced-most c (n ∷ ns) h =
     rw (suc-mul (length ns) (suc c)) (omega (arith, length-append (decimal n) (spaced ns), h .0, spaced-most c ns (h .1)))
 
-entry-digits : (ns : List ℕ) → ((i : ℕ) → getD ns i 0 < 2 ^ 64) → Digits 20 ns
+entry-digits : (ns : List ℕ) → ((i : ℕ) → getD ns i 0 < 2 ^ 64) → FewDigits 20 ns
 entry-digits [] h = tt
 entry-digits (n ∷ ns) h = (decimal-most n (h 0), entry-digits ns (λ i. h (suc i)))
 
-take-digits : (c d : ℕ) (ns : List ℕ) → Digits c ns → Digits c (take d ns)
+take-digits : (c d : ℕ) (ns : List ℕ) → FewDigits c ns → FewDigits c (take d ns)
 take-digits c zero ns h = tt
 take-digits c (suc d) [] h = tt
 take-digits c (suc d) (n ∷ ns) h = (h .0, take-digits c d ns (h .1))
 
-axes-digits : (m : ℕ) → 1 ≤ m → m ≤ 64 → (ns : List ℕ) → Digits 2 (axes m ns)
+axes-digits : (m : ℕ) → 1 ≤ m → m ≤ 64 → (ns : List ℕ) → FewDigits 2 (axes m ns)
 axes-digits m low high [] = tt
 axes-digits m low high (n ∷ ns) =
     (digits-most 1 (axis m n) (omega (arith, axis-most m low high n)), axes-digits m low high ns)

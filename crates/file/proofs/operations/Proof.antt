@@ -1,5 +1,5 @@
--- `file::operations` meets its contract. The number that checking gave is the file's. At 0 the length is that of the head and 9N, so the stretch lies in
--- the file. Assumes nothing.
+-- `file::operations` meets its contract. The number that checking gave is the file's. At 0 the length is that of the head and 9N, so the
+-- stretch lies in the file. Assumes nothing.
 use mathlib.Core.Path.{_≡_, sym, ap, ap₂, _∙_}
 use Prim.Native.Nat.{ℕ, _+_, _-_}
 use native.Mathlib.Omega.{arith}

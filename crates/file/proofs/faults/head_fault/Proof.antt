@@ -38,6 +38,13 @@ inputs : (c : tie.Else3) → badInputs (sizesOf (file-else3 c)) ≡ false
 unfolding badInputs
 inputs c = ap not (told inputCount (c .before .is-input-count .ensures) (c .before .before .input-count .ensures) (not-false _ (c .if3 .left)))
 
+-- and once the file's own head is judged
+output-known : (c : tie.Else4) → badOutput (sizesOf (file-else4 c)) ≡ false
+output-known c = output (c .before .before .before .before .before)
+
+inputs-known : (c : tie.Else4) → badInputs (sizesOf (file-else4 c)) ≡ false
+inputs-known c = inputs (c .before .before)
+
 whole : (c : tie.Else4) → headOf (file-else4 c) ≤ length (file-else4 c)
 whole c = omega (arith, c .before .head-length .ensures, c .if4 .left)
 
@@ -91,7 +98,7 @@ within-requires c κs = search needs
 returns-5 : tie.Need-returns-5
 returns-5 c =
     let b = c .before .before .before in
-    head-4 _ (whole b) (output (b .before .before .before .before .before)) (inputs (b .before .before))
+    head-4 _ (whole b) (output-known b) (inputs-known b)
     (told (within 1 maxSteps) (c .before .within .ensures) (c .before .before .step-count .ensures .0) (not-true _ (c .if5 .taken)))
 
 read-sizes-requires : tie.Need-read-sizes-requires
@@ -104,7 +111,7 @@ returns-6 : tie.Need-returns-6
 returns-6 c =
     let n = c .before .before .before in
     let b = n .before .before .before in
-    head-5 _ (whole b) (output (b .before .before .before .before .before)) (inputs (b .before .before)) (count n)
+    head-5 _ (whole b) (output-known b) (inputs-known b) (count n)
     (told badWidths (c .before .bad-widths .ensures) (c .before .before .read-sizes .ensures) (c .if6 .taken))
 
 mul-if7 : tie.Need-mul-if7
@@ -121,7 +128,7 @@ returns-7 c =
     let n = c .before .before .before .before in
     let b = n .before .before .before in
     let head = b .before .head-length .ensures in
-    head-6 _ (whole b) (output (b .before .before .before .before .before)) (inputs (b .before .before)) (count n) (widths (c .before))
+    head-6 _ (whole b) (output-known b) (inputs-known b) (count n) (widths (c .before))
     (λ e. c .if7 .taken (omega (arith, e, head, n .before .before .step-count .ensures)))
 
 returns-8 : tie.Need-returns-8
@@ -129,7 +136,7 @@ returns-8 c =
     let n = c .before .before .before .before in
     let b = n .before .before .before in
     let head = b .before .head-length .ensures in
-    head-0 _ (whole b) (output (b .before .before .before .before .before)) (inputs (b .before .before)) (count n) (widths (c .before))
+    head-0 _ (whole b) (output-known b) (inputs-known b) (count n) (widths (c .before))
     (omega (arith, c .if7 .left, head, n .before .before .step-count .ensures))
 
 pub head-fault-spec : {M : Type 1} → statement M

@@ -114,7 +114,7 @@ pub fn read_sizes(file: &[u8]) -> Sizes
 
 // N, the count of steps.
 pub fn step_count(file: &[u8]) -> usize
-    requires { ⌜ headOf (now file) ≤ length (now file) ⌝ }
+    requires { ⌜ shortHead ≤ length (now file) ⌝ }
     ensures { λ r. ⌜ (r ≡ stepCount (now (file .entry))) × (r < 2 ^ 16) ⌝ }
 {
     le16(file, 2) as usize

@@ -6,6 +6,7 @@ use Prim.Native.Nat.{ℕ}
 use native.Mathlib.Omega.{arith}
 use denote.Ref.{now}
 use lib.ListN.{length, drop, replicate}
+use Rattle.fields.proofs.Heads.{head-short}
 use Rattle.file.specs.Accepted.{Accepted}
 use Rattle.file.proofs.Accepted.{accepted}
 use Rattle.sizes.specs.declared.Refusal.{Refusal}
@@ -45,7 +46,7 @@ returns c =
     record { answer = ap (λ r. answer r 0) (c .before .refusal-at .ensures) ∙ w .0; scratch = w .1 }
 
 step-count-requires : tie.Need-step-count-requires
-step-count-requires c κs = rules c .long
+step-count-requires c κs = head-short _ (rules c .long)
 
 output-at-requires : tie.Need-output-at-requires
 output-at-requires c κs =

@@ -3,6 +3,7 @@
 use mathlib.Core.Path.{_≡_, sym, _∙_, ap}
 use native.Mathlib.Omega.{arith}
 use denote.Ref.{now}
+use Rattle.fields.proofs.Heads.{head-short}
 use Rattle.file.specs.Accepted.{Accepted}
 use Rattle.file.specs.Check.{fileNumber}
 use Rattle.fields.specs.File.{sizesOf}
@@ -41,7 +42,7 @@ returns : tie.Need-returns
 returns c = c .before .check .ensures ∙ sym (at-file _ _ _ (λ e. c .if1 .taken (number (c .before) ∙ e)))
 
 step-count-requires : tie.Need-step-count-requires
-step-count-requires c κs = rules c .long
+step-count-requires c κs = head-short _ (rules c .long)
 
 refused-by-requires : tie.Need-refused-by-requires
 refused-by-requires c κs = search needs

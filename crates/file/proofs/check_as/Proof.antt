@@ -4,6 +4,7 @@ use mathlib.Core.Path.{_≡_, sym, _∙_}
 use native.Mathlib.Omega.{arith}
 use borrow.Author.Needs.{needs}
 use denote.Ref.{now}
+use Rattle.fields.proofs.Heads.{head-short}
 use Rattle.file.specs.Check.{headFault}
 use Rattle.file.specs.Headed.{Headed}
 use Rattle.file.proofs.Number.{Head, head-passed, refused-head, refused-faulty, refused-sound}
@@ -34,7 +35,7 @@ read-sizes-requires : tie.Need-read-sizes-requires
 read-sizes-requires c κs = passed c .long
 
 step-count-requires : tie.Need-step-count-requires
-step-count-requires c κs = passed (c .before) .long
+step-count-requires c κs = head-short _ (passed (c .before) .long)
 
 faulty-step-requires : tie.Need-faulty-step-requires
 faulty-step-requires c κs = headed c

@@ -42,7 +42,7 @@ returns : tie.Need-returns
 returns c = record { contents = sym (stretch-refused _ (refused (c .before))); address = λ e. absurd (refused (c .before) e) }
 
 step-count-requires : tie.Need-step-count-requires
-step-count-requires c κs = passed c .long
+step-count-requires c κs = head-short _ (passed c .long)
 
 head-length-requires : tie.Need-head-length-requires
 head-length-requires c κs = head-short _ (passed (c .before) .long)

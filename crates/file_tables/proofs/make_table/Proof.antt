@@ -6,6 +6,7 @@ use Prim.Native.Nat.{ℕ, _≤_}
 use native.Mathlib.Omega.{arith}
 use denote.Ref.{now}
 use lib.ListN.{length}
+use Rattle.fields.proofs.Heads.{head-short}
 use Rattle.fields.specs.File.{sizesOf, stepCount}
 use Rattle.file.specs.Accepted.{Accepted}
 use Rattle.file.specs.Check.{fileNumber}
@@ -61,7 +62,7 @@ returns c =
     refused _ _ _ _ (c .before .check .ensures ∙ sym (table-file _ _ _ (λ e. c .if1 .taken (file-number (c .before) ∙ e)))) (c .if1 .taken)
 
 step-count-requires : tie.Need-step-count-requires
-step-count-requires c κs = rules c .long
+step-count-requires c κs = head-short _ (rules c .long)
 
 returns-2 : tie.Need-returns-2
 returns-2 c =

@@ -3,6 +3,7 @@
 use mathlib.Core.List.{List}
 use mathlib.Core.Path.{_≡_}
 use Prim.Native.Nat.{ℕ}
+use Rattle.fields.proofs.Heads.{head-short}
 use Rattle.file.proofs.Sound.{file-sound}
 use Rattle.fields.specs.File.{sizesOf, stepCount}
 use Rattle.grid.specs.Grid.{gridOf}
@@ -27,10 +28,10 @@ grid-of-requires c κs =
     rw (p .1) (file-sound _ a)
 
 step-count-requires : tie.Need-step-count-requires
-step-count-requires c κs = search needs
+step-count-requires c κs = head-short _ (c .before .before .before .before .pre .0 .sound₁ .long)
 
 step-count-requires-2 : tie.Need-step-count-requires-2
-step-count-requires-2 c κs = search needs
+step-count-requires-2 c κs = head-short _ (c .before .before .before .before .before .pre .0 .sound₂ .long)
 
 cast-t8 : tie.Need-cast-t8
 cast-t8 c = search needs

@@ -11,7 +11,7 @@ use denote.Ref.{now}
 use lib.ListN.{length}
 use Rattle.sizes.specs.Sizes.{within, outputLength, inputCount, badOutput, badInputs, badWidths}
 use Rattle.fields.specs.File.{sizesOf, headOf, stepCount}
-use Rattle.fields.proofs.Heads.{head-most}
+use Rattle.fields.proofs.Heads.{head-most, head-short}
 use Rattle.file.specs.Check.{maxSteps}
 use Rattle.file.proofs.Cases.{told, head-0, head-1, head-2, head-3, own-head-1, head-4, head-5, head-6}
 use Rattle.file.proofs.faults.head_fault.Statement.{statement}
@@ -90,7 +90,7 @@ returns-4 c =
     (omega (arith, c .before .head-length .ensures, c .if4 .taken))
 
 step-count-requires : tie.Need-step-count-requires
-step-count-requires c κs = whole c
+step-count-requires c κs = head-short _ (whole c)
 
 within-requires : tie.Need-within-requires
 within-requires c κs = search needs

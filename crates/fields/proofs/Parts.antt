@@ -18,6 +18,18 @@ little-drop (suc n) i s j =
     let e : i + (j + 1) ≡ i + j + 1 = omega arith in
     ap₂ (λ a b. a + 256 * b) (getD-drop i s j 0) (little-drop n i s (j + 1) ∙ ap (little n s) e)
 
+output : (s : List ℕ) → sizesOf s .m ≡ getD s 0 0
+unfolding sizesOf
+output s = refl
+
+inputs : (s : List ℕ) → sizesOf s .d ≡ getD s 1 0
+unfolding sizesOf
+inputs s = refl
+
+count : (s : List ℕ) → stepCount s ≡ getD s 2 0 + 256 * getD s 3 0
+unfolding stepCount little
+count s = omega arith
+
 widths : (s : List ℕ) (i : ℕ) → widthsFrom + i < headOf s → getD (sizesOf s .widths) i 0 ≡ getD s (widthsFrom + i) 0
 unfolding sizesOf
 widths s i l =
@@ -59,4 +71,14 @@ module _ (s head ops args : List ℕ) (p : Parted s head ops args) where
       sym (little-drop 8 (headOf s + stepCount s) s (8 * k)) ∙ ap (λ bytes. little 8 bytes (8 * k)) after-operations
 
 pub fieldsInOrder : FieldsInOrder
-fieldsInOrder = record { widths = widths; unused = unused; operations = operations; operation = operation-at; argument = argument-at }
+fieldsInOrder =
+    record {
+      output = output;
+      inputs = inputs;
+      count = count;
+      widths = widths;
+      unused = unused;
+      operations = operations;
+      operation = operation-at;
+      argument = argument-at;
+    }

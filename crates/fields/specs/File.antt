@@ -17,6 +17,8 @@
 --   Parted s head operations arguments
 --                    s is these three in this order: as many bytes as its head has, a byte for each step, and the rest
 --   FieldsInOrder    each field is read from the part that document 01 has it in. Proved in proofs/Parts:
+--     output, inputs, count
+--                 m is byte 0, d is byte 1, and N is bytes 2 and 3, the first weighing least
 --     widths      the word lengths are bytes 4 and on of the head, one by one
 --     unused      and 0 where the head has no more
 --     operations  the operation bytes are the second part
@@ -91,6 +93,9 @@ pub record Parted (s head operations arguments : List ℕ) : Type 0 where
   pub counted : length operations ≡ stepCount s
 
 pub record FieldsInOrder : Type 0 where
+  pub output : (s : List ℕ) → sizesOf s .m ≡ getD s 0 0
+  pub inputs : (s : List ℕ) → sizesOf s .d ≡ getD s 1 0
+  pub count : (s : List ℕ) → stepCount s ≡ getD s 2 0 + 256 * getD s 3 0
   pub widths : (s : List ℕ) (i : ℕ) → 4 + i < headOf s → getD (sizesOf s .widths) i 0 ≡ getD s (4 + i) 0
   pub unused : (s : List ℕ) (i : ℕ) → headOf s ≤ 4 + i → getD (sizesOf s .widths) i 0 ≡ 0
   pub operations : (s head ops args : List ℕ) → Parted s head ops args → operationsOf s ≡ ops

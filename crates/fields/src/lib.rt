@@ -66,7 +66,7 @@ fn width_bytes(d: u64) -> usize
 }
 
 // The bytes of the file's head, before the operation bytes.
-pub fn head_length(file: &[u8]) -> usize
+pub fn head_of(file: &[u8]) -> usize
     requires { ⌜ shortHead ≤ length (now file) ⌝ }
     ensures { λ r. ⌜ r ≡ headOf (now (file .entry)) ⌝ }
 {

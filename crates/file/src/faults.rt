@@ -2,7 +2,7 @@
 use fields::SHORT_HEAD;
 use fields::STEPS;
 use fields::argument;
-use fields::head_length;
+use fields::head_of;
 use fields::input_count;
 use fields::left_operand;
 use fields::operation;
@@ -35,7 +35,7 @@ pub fn head_fault(file: &[u8]) -> u64
     if !is_input_count(input_count(file)) {
         return 3;
     }
-    let head = head_length(file);
+    let head = head_of(file);
     if file.len() < head {
         return 1;
     }

@@ -2,7 +2,7 @@
 use crate::faults::faulty_step;
 use crate::faults::head_fault;
 use crate::faults::step_fault;
-use fields::head_length;
+use fields::head_of;
 use fields::read_sizes;
 use fields::step_count;
 use sizes::Refusal;
@@ -60,7 +60,7 @@ pub fn operations(file: &[u8]) -> &[u8]
         return &file[0..0];
     }
     let n = step_count(file);
-    let head = head_length(file);
+    let head = head_of(file);
     let end = head + n;
     &file[head..end]
 }

@@ -1,7 +1,7 @@
 // The calls on one file, in words: checking, finding the operation bytes, evaluating. Each returns 1 where its layout
 // is right, and 0, with nothing touched, where it is not.
 use evaluate::evaluate;
-use fields::head_length;
+use fields::head_of;
 use file::check;
 use file::operations;
 use refusal_words::REFUSAL_LENGTH;
@@ -40,7 +40,7 @@ pub fn operations_call(file: &[u8], out: &mut [u64]) -> u32
         return 0;
     }
     let n = operations(file).len() as u64;
-    let start = if n == 0 { 0 } else { head_length(file) as u64 };
+    let start = if n == 0 { 0 } else { head_of(file) as u64 };
     copy_front(&[start, n], out, OPERATIONS_LENGTH);
     1
 }

@@ -60,7 +60,7 @@ pub fn is_output_length(m: u64) -> bool
 }
 
 // Whether m breaks condition 2: it is not 1 to 64.
-pub fn bad_output(z: Sizes) -> bool
+fn bad_output(z: Sizes) -> bool
     ensures { λ r. ⌜ r ≡ badOutput z ⌝ }
 {
     let m = z.m as u64;
@@ -75,7 +75,7 @@ pub fn is_input_count(d: u64) -> bool
 }
 
 // Whether d breaks condition 3: it is not 1 to INPUTS.
-pub fn bad_inputs(z: Sizes) -> bool
+fn bad_inputs(z: Sizes) -> bool
     ensures { λ r. ⌜ r ≡ badInputs z ⌝ }
 {
     let d = z.d as u64;

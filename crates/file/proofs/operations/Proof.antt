@@ -44,11 +44,11 @@ returns c = record { contents = sym (stretch-refused _ (refused (c .before))); a
 step-count-requires : tie.Need-step-count-requires
 step-count-requires c κs = head-short _ (passed c .long)
 
-head-length-requires : tie.Need-head-length-requires
-head-length-requires c κs = head-short _ (passed (c .before) .long)
+head-of-requires : tie.Need-head-of-requires
+head-of-requires c κs = head-short _ (passed (c .before) .long)
 
 add-end : tie.Need-add-end
-add-end c = omega (arith, c .head-length .ensures, head-most (now (c .before .before .before .before .before .args .file)), c .before .step-count .ensures)
+add-end c = omega (arith, c .head-of .ensures, head-most (now (c .before .before .before .before .before .args .file)), c .before .step-count .ensures)
 
 sub-result-2 : tie.Need-sub-result-2
 sub-result-2 c = search needs
@@ -57,17 +57,17 @@ part-result-start-2 : tie.Need-part-result-start-2
 part-result-start-2 c = search needs
 
 part-result-end-2 : tie.Need-part-result-end-2
-part-result-end-2 c = omega (arith, passed (c .before .before) .size, c .head-length .ensures, c .before .step-count .ensures)
+part-result-end-2 c = omega (arith, passed (c .before .before) .size, c .head-of .ensures, c .before .step-count .ensures)
 
 returns-2 : tie.Need-returns-2
 unfolding operationsOf
 returns-2 c =
     let file = c .before .before .before .before .before .before .args .file in
     let s = now file in
-    let h = c .before .head-length .result in
+    let h = c .before .head-of .result in
     let n = c .before .before .step-count .result in
     let count : h + n - h ≡ n = omega arith in
-    let head = c .before .head-length .ensures in
+    let head = c .before .head-of .ensures in
     record {
       contents =
           ap₂ (λ (n h : ℕ). take n (drop h s)) (count ∙ c .before .before .step-count .ensures .0) head
@@ -85,7 +85,7 @@ operations-spec =
     part-result-end
     returns
     step-count-requires
-    head-length-requires
+    head-of-requires
     add-end
     sub-result-2
     part-result-start-2

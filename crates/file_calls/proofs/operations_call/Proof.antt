@@ -21,8 +21,8 @@ returns c = let e = ne-eqb _ operationsLength (c .if1 .taken) in record { result
 operations-requires : tie.Need-operations-requires
 operations-requires c κs = search needs
 
-head-length-requires : tie.Need-head-length-requires
-head-length-requires c κs = stretch-head _ (λ e. c .if2 .left (ap length (c .before .operations .ensures .contents) ∙ e))
+head-of-requires : tie.Need-head-of-requires
+head-of-requires c κs = stretch-head _ (λ e. c .if2 .left (ap length (c .before .operations .ensures .contents) ∙ e))
 
 slice-aggregate-copy-front : tie.Need-slice-aggregate-copy-front
 slice-aggregate-copy-front c = search needs
@@ -53,7 +53,7 @@ operations-call-spec =
     (tie.spec
     returns
     operations-requires
-    head-length-requires
+    head-of-requires
     slice-aggregate-copy-front
     copy-front-requires
     same-length

@@ -46,7 +46,7 @@ inputs-known : (c : tie.Else4) → badInputs (sizesOf (file-else4 c)) ≡ false
 inputs-known c = inputs (c .before .before)
 
 whole : (c : tie.Else4) → headOf (file-else4 c) ≤ length (file-else4 c)
-whole c = omega (arith, c .before .head-length .ensures, c .if4 .left)
+whole c = omega (arith, c .before .head-of .ensures, c .if4 .left)
 
 count : (c : tie.Else5) → within 1 maxSteps (stepCount (file-else5 c)) ≡ true
 count c = told (within 1 maxSteps) (c .before .within .ensures) (c .before .before .step-count .ensures .0) (not-false _ (c .if5 .left))
@@ -81,13 +81,13 @@ returns-3 c =
     head-3 _ (search needs) (output (c .before .before .before))
     (ap not (told inputCount (c .before .is-input-count .ensures) (c .before .before .input-count .ensures) (not-true _ (c .if3 .taken))))
 
-head-length-requires : tie.Need-head-length-requires
-head-length-requires c κs = search needs
+head-of-requires : tie.Need-head-of-requires
+head-of-requires c κs = search needs
 
 returns-4 : tie.Need-returns-4
 returns-4 c =
     own-head-1 _ (search needs) (output (c .before .before .before .before .before)) (inputs (c .before .before))
-    (omega (arith, c .before .head-length .ensures, c .if4 .taken))
+    (omega (arith, c .before .head-of .ensures, c .if4 .taken))
 
 step-count-requires : tie.Need-step-count-requires
 step-count-requires c κs = head-short _ (whole c)
@@ -121,13 +121,13 @@ add-if7 : tie.Need-add-if7
 add-if7 c =
     let n = c .before .before .before in
     let b = n .before .before .before in
-    omega (arith, b .before .head-length .ensures, head-most (file-else4 b), n .before .before .step-count .ensures)
+    omega (arith, b .before .head-of .ensures, head-most (file-else4 b), n .before .before .step-count .ensures)
 
 returns-7 : tie.Need-returns-7
 returns-7 c =
     let n = c .before .before .before .before in
     let b = n .before .before .before in
-    let head = b .before .head-length .ensures in
+    let head = b .before .head-of .ensures in
     head-6 _ (whole b) (output-known b) (inputs-known b) (count n) (widths (c .before))
     (λ e. c .if7 .taken (omega (arith, e, head, n .before .before .step-count .ensures)))
 
@@ -135,7 +135,7 @@ returns-8 : tie.Need-returns-8
 returns-8 c =
     let n = c .before .before .before .before in
     let b = n .before .before .before in
-    let head = b .before .head-length .ensures in
+    let head = b .before .head-of .ensures in
     head-0 _ (whole b) (output-known b) (inputs-known b) (count n) (widths (c .before))
     (omega (arith, c .if7 .left, head, n .before .before .step-count .ensures))
 
@@ -150,7 +150,7 @@ head-fault-spec =
     input-count-requires
     is-input-count-requires
     returns-3
-    head-length-requires
+    head-of-requires
     returns-4
     step-count-requires
     within-requires

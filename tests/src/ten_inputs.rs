@@ -199,6 +199,12 @@ pub fn tables() -> Vec<Tabled> {
             &[(&[1; 9], 1)],
         ),
         Tabled::new(
+            "the product of eight",
+            (8, &[1; 8]),
+            product(8),
+            &[(&[1; 8], 1)],
+        ),
+        Tabled::new(
             "7 - 3 x9 + 5 x1 x10",
             ones,
             polynomial,

@@ -9,10 +9,15 @@ pub const STEPS: usize = 5;
 /// m of a sound file.
 pub const M: u64 = 8;
 
-/// The word lengths of a sound file with the short head, whose grid is 10 by 8, and of one with the
-/// long head, on whose grid each input takes two values.
+/// The word lengths of a sound file of two inputs, whose grid is 10 by 8, and of those of eight, nine
+/// and ten, on whose grids each input takes two values. Nine and ten have the long head.
 pub const WIDTHS: [u64; 2] = [8, 3];
-pub const LONG_WIDTHS: [u64; 9] = [1; 9];
+pub const MANY_WIDTHS: [&[u64]; 3] = [&[1; 8], &[1; 9], &[1; 10]];
+
+/// The word lengths of all sound files.
+pub fn all_widths() -> impl Iterator<Item = &'static [u64]> {
+    [&WIDTHS[..]].into_iter().chain(MANY_WIDTHS)
+}
 
 /// The sizes of a sound file.
 pub fn sound_sizes(widths: &[u64]) -> Sizes {
@@ -79,7 +84,8 @@ const FILE_FAULTS: [FileFault; 15] = [
     fault(4, 0, |file| file[3] = 5),
     fault(5, 0, |file| {
         let last = head_of(file) - 1;
-        file[last] = 1;
+        let used = last == 3 + usize::from(file[1]);
+        file[last] = if used { 65 } else { 1 };
     }),
     fault(6, 0, |file| {
         file.pop();

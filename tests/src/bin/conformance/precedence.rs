@@ -1,9 +1,9 @@
 //! Which refusal is given where several conditions hold: every set of sixteen faults at once, and of
-//! thirteen where the file has the long head.
+//! those in the head and at the first and last step where the file has eight inputs or more.
 
 use crate::bench::{Bench, Outcome};
 use crate::faults::{
-    Fault, FileFault, LONG_WIDTHS, STEPS, WIDTHS, at_the_ends, of_file, sound_file, subsets,
+    Fault, FileFault, MANY_WIDTHS, STEPS, WIDTHS, at_the_ends, of_file, sound_file, subsets,
 };
 use reference::samples::top;
 
@@ -31,7 +31,10 @@ fn faults(widths: &[u64], chosen: fn(&FileFault) -> bool) -> Vec<Fault<Call>> {
 
 pub fn evaluate(bench: &mut Bench) -> Outcome {
     every(bench, &WIDTHS, |_| true)?;
-    every(bench, &LONG_WIDTHS, at_the_ends)
+    for widths in MANY_WIDTHS {
+        every(bench, widths, at_the_ends)?;
+    }
+    Ok(())
 }
 
 fn every(bench: &mut Bench, widths: &[u64], chosen: fn(&FileFault) -> bool) -> Outcome {

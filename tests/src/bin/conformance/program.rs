@@ -6,7 +6,7 @@
 
 use crate::Group;
 use crate::bench::{Bench, Outcome};
-use crate::faults::{LONG_WIDTHS, WIDTHS, at_the_ends, file_faults, sound_file};
+use crate::faults::{all_widths, at_the_ends, file_faults, sound_file};
 use crate::product::ask;
 use crate::refusals::plain;
 use reference::calls::NUMBERS;
@@ -221,7 +221,7 @@ fn compared(bench: &mut Bench) -> Outcome {
 /// Every number, in either file, with either head; files of the greatest length and past it.
 fn refused(bench: &mut Bench) -> Outcome {
     let folder = Folder::new("refusals")?;
-    for widths in [&WIDTHS[..], &LONG_WIDTHS] {
+    for widths in all_widths() {
         let sound = sound_file(widths);
         for fault in file_faults(widths).filter(|fault| at_the_ends(fault)) {
             let mut bad = sound.clone();

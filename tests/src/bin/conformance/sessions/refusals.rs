@@ -4,8 +4,8 @@ use super::Files;
 use super::bench::scratch;
 use crate::bench::{Bench, Outcome};
 use crate::faults::{
-    Fault, FileFault, LONG_WIDTHS, STEPS, WIDTHS, file_faults, of_file, sound_file, sound_sizes,
-    subsets as sets,
+    Fault, FileFault, MANY_WIDTHS, STEPS, WIDTHS, all_widths, file_faults, of_file, sound_file,
+    sound_sizes, subsets as sets,
 };
 use crate::refusals::plain;
 use reference::file::read;
@@ -14,9 +14,8 @@ use reference::sessions::{MARK, POSITION, SESSION};
 use reference::sizes::INPUTS;
 use reference::ten_inputs::{SAMPLE_NINE, SAMPLE_TEN, ZERO_TEN};
 
-/// G of the sound files with the short head and with the long one.
+/// G of the sound file of two inputs; that of d inputs of one bit is 2^d.
 const GRID: u64 = 80;
-const LONG_GRID: u64 = 512;
 
 /// What a continue call is given; an opening takes the files of it.
 struct Call {
@@ -50,7 +49,7 @@ fn faults(widths: &[u64], grid: u64, chosen: &[(u64, u64)]) -> Vec<Fault<Call>> 
     }));
     list.push(([9, 0, 0], Box::new(|call| call.files[1][5] = 4)));
     list.push(([12, 0, 0], Box::new(|call| call.scratch -= 1)));
-    list.push(([101, 0, 0], Box::new(|call| call.session[POSITION - 1] = 1)));
+    list.push(([101, 0, 0], Box::new(|call| call.session[POSITION - 1] = 2)));
     list.push((
         [102, 0, 0],
         Box::new(move |call| call.session[POSITION] = grid + 1),
@@ -65,17 +64,16 @@ fn faults(widths: &[u64], grid: u64, chosen: &[(u64, u64)]) -> Vec<Fault<Call>> 
     list
 }
 
-/// Every set of fourteen faults, in continue and in open. Of files with the long head, 1 is judged
-/// before 2 and after 3.
+/// Every set of fourteen faults, in continue and in open. Of eight inputs and more, others of the
+/// files' faults are chosen: with the long head, 1 is judged before 2 and after 3.
 pub fn subsets(bench: &mut Bench) -> Outcome {
     let chosen = [(2, 0), (6, 0), (7, 0), (8, 4)];
     every(bench, &WIDTHS, &faults(&WIDTHS, GRID, &chosen))?;
     let chosen = [(1, 0), (5, 0), (8, 4)];
-    every(
-        bench,
-        &LONG_WIDTHS,
-        &faults(&LONG_WIDTHS, LONG_GRID, &chosen),
-    )
+    for widths in MANY_WIDTHS {
+        every(bench, widths, &faults(widths, 1 << widths.len(), &chosen))?;
+    }
+    Ok(())
 }
 
 fn every(bench: &mut Bench, widths: &[u64], faults: &[Fault<Call>]) -> Outcome {
@@ -103,7 +101,10 @@ fn refuses(bench: &mut Bench, files: Files, expected: [u64; 3]) -> Outcome {
     bench.same(&opened.session, &zeros, || {
         String::from("a refused opening")
     })?;
-    for session in [zeros, sound(&WIDTHS).session, sound(&LONG_WIDTHS).session] {
+    for session in [zeros]
+        .into_iter()
+        .chain(all_widths().map(|widths| sound(widths).session))
+    {
         let done = bench.answered(files, &session, 1, &scratch(1030))?;
         bench.same(&done.answer[..3], &expected, || String::from("continue"))?;
     }
@@ -113,7 +114,7 @@ fn refuses(bench: &mut Bench, files: Files, expected: [u64; 3]) -> Outcome {
 /// Each fault of a file in file 1, in file 2 and in both, and other files beside it; and the sessions
 /// of the samples.
 pub fn opening(bench: &mut Bench) -> Outcome {
-    for widths in [&WIDTHS[..], &LONG_WIDTHS] {
+    for widths in all_widths() {
         let sound = sound_file(widths);
         let other = plain(7, &[5, 6, 7], 4);
         for fault in file_faults(widths) {

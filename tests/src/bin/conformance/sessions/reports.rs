@@ -3,7 +3,7 @@
 use super::Files;
 use super::bench::scratch;
 use crate::bench::{Bench, Outcome};
-use crate::faults::{LONG_WIDTHS, WIDTHS, file_faults, sound_file};
+use crate::faults::{all_widths, file_faults, sound_file};
 use crate::refusals::plain;
 use reference::examples;
 use reference::pairs::{self, SAMPLE_A, SAMPLE_B};
@@ -78,7 +78,7 @@ pub fn verdicts(bench: &mut Bench) -> Outcome {
         let files = pair.files.each_ref().map(Vec::as_slice);
         finished(bench, files, 1_000_000)?;
     }
-    for widths in [&WIDTHS[..], &LONG_WIDTHS] {
+    for widths in all_widths() {
         let sound = sound_file(widths);
         for fault in file_faults(widths) {
             let mut bad = sound.clone();

@@ -3,12 +3,12 @@
 
 use crate::bench::{Bench, Outcome};
 use reference::expression::{Expression, x};
-use reference::file::{Datapath, Step, read, write};
+use reference::file::{Datapath, SHORT_INPUTS, Step, read, write};
 use reference::grid::{axes, place_of, size, vectors};
 use reference::newton::{difference_at, sum_at};
 use reference::random::Random;
 use reference::samples::top;
-use reference::sizes::Sizes;
+use reference::sizes::{INPUTS, Sizes};
 use reference::tables::outputs;
 use reference::twins::late;
 
@@ -29,9 +29,11 @@ fn spot(random: &mut Random, axes: &[u64]) -> Vec<u64> {
 
 pub fn tables(bench: &mut Bench) -> Outcome {
     let mut random = Random::new(SEED);
-    let list: [(u64, &[u64]); 3] = [
+    let list: [(u64, &[u64]); 5] = [
         (64, &[64, 64, 64]),
         (4, &[4; 7]),
+        (61, &[6, 1, 1, 1, 1, 1, 1, 4]),
+        (61, &[4, 1, 1, 1, 1, 1, 1, 1, 6]),
         (61, &[6, 4, 1, 1, 1, 1, 1, 1, 1, 1]),
     ];
     for (m, widths) in list {
@@ -84,16 +86,20 @@ pub fn files(bench: &mut Bench) -> Outcome {
     expected[place_of(&grid, &degrees) as usize] = factorials.iter().product();
     bench.cells(&table, &expected, || String::from("falling factorials"))?;
 
-    let polynomial: Expression = 3 * x(1) * x(2) * x(10) - x(9) * x(3) + 5;
-    let file = polynomial.file(16, &[16, 16, 1, 1, 1, 1, 1, 1, 1, 1]);
-    let path = read(&file, 1).map_err(|refusal| format!("{refusal:?}"))?;
-    let grid = axes(&path.sizes);
-    let table = bench.table_of(&file, size(&grid) as usize)?;
-    let summed = bench.sums(&path.sizes, &table)?;
-    bench.cells(&summed, &outputs(&path), || String::from("sum of a table"))?;
-    for (vector, &output) in vectors(&grid).zip(&summed) {
-        let integer = polynomial.at(&vector).rem_euclid(1 << 16) as u64;
-        bench.same(&output, &integer, || format!("output at {vector:?}"))?;
+    for d in SHORT_INPUTS..=INPUTS {
+        let polynomial: Expression = 3 * x(1) * x(2) * x(d) - x(d - 1) * x(3) + 5;
+        let mut widths = vec![1; d];
+        widths[..2].fill(16);
+        let file = polynomial.file(16, &widths);
+        let path = read(&file, 1).map_err(|refusal| format!("{refusal:?}"))?;
+        let grid = axes(&path.sizes);
+        let table = bench.table_of(&file, size(&grid) as usize)?;
+        let summed = bench.sums(&path.sizes, &table)?;
+        bench.cells(&summed, &outputs(&path), || String::from("sum of a table"))?;
+        for (vector, &output) in vectors(&grid).zip(&summed) {
+            let integer = polynomial.at(&vector).rem_euclid(1 << 16) as u64;
+            bench.same(&output, &integer, || format!("output at {vector:?}"))?;
+        }
     }
     Ok(())
 }

@@ -4,7 +4,7 @@ use super::bench::filling;
 use super::product::Numbers;
 use crate::bench::{Bench, Outcome};
 use crate::faults::{
-    Fault, FileFault, LONG_WIDTHS, STEPS, WIDTHS, at_the_ends, of_file, sound_file, sound_sizes,
+    Fault, FileFault, MANY_WIDTHS, STEPS, WIDTHS, at_the_ends, of_file, sound_file, sound_sizes,
     subsets,
 };
 use crate::refusals::plain;
@@ -20,14 +20,17 @@ struct TableCall {
     cells: usize,
 }
 
-/// G of the sound files with the short head and with the long one.
+/// G of the sound file of two inputs; that of d inputs of one bit is 2^d.
 const GRID: usize = 80;
-const LONG_GRID: usize = 512;
 
-/// Every set of sixteen faults, and of thirteen where the file has the long head.
+/// Every set of sixteen faults, and of those in the head and at the first and last step where the
+/// file has eight inputs or more.
 pub fn of_table(bench: &mut Bench) -> Outcome {
     every(bench, &WIDTHS, GRID, |_| true)?;
-    every(bench, &LONG_WIDTHS, LONG_GRID, at_the_ends)
+    for widths in MANY_WIDTHS {
+        every(bench, widths, 1 << widths.len(), at_the_ends)?;
+    }
+    Ok(())
 }
 
 fn every(
@@ -68,17 +71,22 @@ fn sound(widths: &[u64], cells: usize) -> CellCall {
     }
 }
 
-/// Every set of faults in the sizes and in both slices, of two inputs and of nine.
+/// Every set of faults in the sizes and in both slices, of two inputs and of eight to ten.
 pub fn of_cells(bench: &mut Bench) -> Outcome {
-    let sound_calls: [(&[u64], usize); 2] = [(&WIDTHS, GRID), (&LONG_WIDTHS, LONG_GRID)];
-    for (widths, cells) in sound_calls {
-        let unused = 2 + widths.len();
+    let many = MANY_WIDTHS.map(|widths| (widths, 1 << widths.len()));
+    for (widths, cells) in [(&WIDTHS[..], GRID)].into_iter().chain(many) {
+        // the first unused word length, made 1; of ten inputs the last one, made 65
+        let (place, wrong) = if widths.len() < 10 {
+            (2 + widths.len(), 1)
+        } else {
+            (11, 65)
+        };
         let faults: [Fault<CellCall>; 10] = [
             ([2, 0, 0], Box::new(|call| call.numbers[0] = 65)),
             ([3, 0, 0], Box::new(|call| call.numbers[1] = 11)),
             ([5, 0, 0], Box::new(|call| call.numbers[2] = 0)),
             ([5, 0, 0], Box::new(|call| call.numbers[3] = 65)),
-            ([5, 0, 0], Box::new(move |call| call.numbers[unused] = 1)),
+            ([5, 0, 0], Box::new(move |call| call.numbers[place] = wrong)),
             ([5, 0, 0], Box::new(|call| call.numbers[11] = 255)),
             ([13, 0, 0], Box::new(|call| call.lent -= 1)),
             (

@@ -11,7 +11,7 @@ use Rattle.file.specs.Accepted.{Accepted}
 use Rattle.fields.specs.File.{sizesOf}
 use Rattle.grid.specs.Grid.{axesOf, gridSize}
 use Rattle.lanes.specs.Lanes.{VectorOnGrid, LanesOnGrid}
-use Rattle.places.specs.Places.{size, vectorAt}
+use Rattle.places.specs.Places.{size, digitsAt}
 use Rattle.places.proofs.Places.{oneToOne}
 use Rattle.plan.specs.Plan.{Planned}
 use Rattle.plan.specs.declared.Plan.{Plan}
@@ -21,9 +21,9 @@ use Rattle.vectors.proofs.Digits.{below-at}
 use Rattle.batches.specs.Batch.{LanesSet}
 
 -- the vector at a place
-pub place-on-grid : (s : List ℕ) → Accepted s → (p : ℕ) → p < size (axesOf (sizesOf s)) → VectorOnGrid s (vectorAt (axesOf (sizesOf s)) p)
+pub place-on-grid : (s : List ℕ) → Accepted s → (p : ℕ) → p < size (axesOf (sizesOf s)) → VectorOnGrid s (digitsAt (axesOf (sizesOf s)) p)
 place-on-grid s a p h i g =
-    below-at (axesOf (sizesOf s)) (vectorAt (axesOf (sizesOf s)) p) i (oneToOne (axesOf (sizesOf s)) .below p h) (omega (arith, length-file-axes s a))
+    below-at (axesOf (sizesOf s)) (digitsAt (axesOf (sizesOf s)) p) i (oneToOne (axesOf (sizesOf s)) .below p h) (omega (arith, length-file-axes s a))
 
 grid-first : (s : List ℕ) → Accepted s → 0 < size (axesOf (sizesOf s))
 unfolding gridSize

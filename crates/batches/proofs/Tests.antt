@@ -14,7 +14,7 @@ use Rattle.fields.specs.Steps.{stepsOf}
 use Rattle.grid.specs.Grid.{axesOf}
 use Rattle.lanes.specs.Lanes.{Reads, HeldTo, Shown, Room}
 use Rattle.lanes.proofs.Stepped.{lane-output}
-use Rattle.places.specs.Places.{vectorAt}
+use Rattle.places.specs.Places.{digitsAt}
 use Rattle.plan.specs.Comparison.{outputsDiffer}
 use Rattle.plan.specs.declared.Plan.{Plan}
 use Rattle.plan.proofs.Numbers as plan
@@ -32,10 +32,10 @@ use Rattle.batches.specs.declared.Shape.{Shape}
 
 pub output-test :
     (s₁ s₂ : List ℕ) (p : ℕ) → sizesOf s₁ ≡ sizesOf s₂ →
-    not (eqb (outputOf s₁ (vectorAt (axesOf (sizesOf s₁)) p)) (outputOf s₂ (vectorAt (axesOf (sizesOf s₁)) p))) ≡ outputsDiffer s₁ s₂ p
+    not (eqb (outputOf s₁ (digitsAt (axesOf (sizesOf s₁)) p)) (outputOf s₂ (digitsAt (axesOf (sizesOf s₁)) p))) ≡ outputsDiffer s₁ s₂ p
 unfolding outputsDiffer differsAt outputOf
 output-test s₁ s₂ p same =
-    let x = vectorAt (axesOf (sizesOf s₁)) p in
+    let x = digitsAt (axesOf (sizesOf s₁)) p in
     ap (λ (z : Sizes). not (eqb (outputOf s₁ x) (output (z .m) (stepsOf s₂) x))) (sym same)
 
 module _
@@ -109,7 +109,7 @@ module _
     -- lanes that hold the vectors from place p on, and rows a and b the outputs there: the first lane that differs is that of the first place
     pub batch-first :
         (inputs v u : List ℕ) (a b p live m r : ℕ) → m ≡ sizesOf s₁ .m → live ≤ w →
-        ((i l : ℕ) → i < maxInputs → l < live → lane w inputs i l ≡ getD (vectorAt (take d (g .axes)) (p + l)) i 0) →
+        ((i l : ℕ) → i < maxInputs → l < live → lane w inputs i l ≡ getD (digitsAt (take d (g .axes)) (p + l)) i 0) →
         ((l : ℕ) (x : List ℕ) → l < w → Reads w s₁ inputs l x → Shown w s₁ x v l a) →
         ((l : ℕ) (x : List ℕ) → l < w → Reads w s₂ inputs l x → Shown w s₂ x u l b) →
         r ≡ first (unequal w m v a u b) 0 live → p + r ≡ first (outputsDiffer s₁ s₂) p live
@@ -120,7 +120,7 @@ module _
       where
         test : (l : ℕ) → l < live → unequal w (sizesOf s₁ .m) v a u b l ≡ outputsDiffer s₁ s₂ (p + l)
         test l h =
-            let x = vectorAt (axesOf (sizesOf s₁)) (p + l) in
+            let x = digitsAt (axesOf (sizesOf s₁)) (p + l) in
             let reads₁ : Reads w s₁ inputs l x = λ i hi. rw (plan.grid (k .planned)) at (columns i l (omega (arith, hi, k .planned .files .sound₁ .inputsHigh)) h) in
             lane-test v u a b l x (run₁ l x (omega arith) reads₁) (run₂ l x (omega arith) (λ i hi. reads₁ i (rw (k .planned .files .same) hi)))
             ∙ output-test s₁ s₂ (p + l) (k .planned .files .same)

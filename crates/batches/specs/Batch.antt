@@ -10,7 +10,7 @@ use mathlib.Core.List.{List}
 use Prim.Native.Nat.{ℕ, _+_, _*_, _≤_, _<_}
 use lib.ListN.{length, getD}
 use Rattle.lanes.specs.Lanes.{LanesOnGrid}
-use Rattle.places.specs.Places.{size, vectorAt}
+use Rattle.places.specs.Places.{size, digitsAt}
 use Rattle.rows.specs.Rows.{lane}
 use Rattle.ranges.specs.Search.{first}
 use Rattle.sizes.specs.Sizes.{maxInputs}
@@ -23,7 +23,7 @@ pub record Live (w : ℕ) (us : List ℕ) (p live : ℕ) (inputs : List ℕ) : T
   pub inside : p + live ≤ size us
 
 pub record LanesSet (w : ℕ) (us : List ℕ) (p live : ℕ) (before after : List ℕ) : Type 0 where
-  pub set : (i l : ℕ) → i < maxInputs → l < live → lane w after i l ≡ getD (vectorAt us (p + l)) i 0
+  pub set : (i l : ℕ) → i < maxInputs → l < live → lane w after i l ≡ getD (digitsAt us (p + l)) i 0
   pub others : (i l : ℕ) → live ≤ l → l < w → lane w after i l ≡ lane w before i l
 
 pub record BatchRun (w : ℕ) (s₁ s₂ : List ℕ) (p live : ℕ) (inputs : List ℕ) (r : ℕ) : Type 0 where

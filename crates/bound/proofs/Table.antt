@@ -80,4 +80,4 @@ sameBound = record { only = bound-only; listed = bound-entry; count = refl }
 
 pub axisByLeast : AxisByLeast
 unfolding axis
-axisByLeast m n l p = ap (min (2 ^ n)) (sym (bound-only m l p))
+axisByLeast m f l p = ap (min (2 ^ f .length)) (sym (bound-only m l p))

@@ -25,7 +25,7 @@ use Rattle.file_tables.proofs.Files.{table-sums}
 use Rattle.grid.specs.Grid.{axesOf, gridSize}
 use Rattle.integers.specs.Modulo.{remainder}
 use Rattle.integers.proofs.Remainder.{remainder-most}
-use Rattle.places.specs.Places.{size, vectorAt}
+use Rattle.places.specs.Places.{size, digitsAt}
 use Rattle.sizes.specs.Sizes.{Ruled, accepted}
 use Rattle.sizes.specs.declared.Sizes.{Sizes}
 use Rattle.sizes.proofs.Judged.{number-of}
@@ -38,8 +38,8 @@ use Rattle.demand2.specs.Demand2.{SumOfMade, DifferenceOfSum, SumOfDiffe
 cells-listed : (M : ℕ) (us : List ℕ) (f : List ℕ → ℕ) → ((x : List ℕ) → f x < M) → Cells M us (listed us f)
 cells-listed M us f l =
     record {
-      full = length-tabulate (λ p. f (vectorAt us p)) 0 (size us);
-      small = λ p h. rw (getD-tabulate (λ p. f (vectorAt us p)) 0 (size us) 0 p h) (l (vectorAt us (0 + p)));
+      full = length-tabulate (λ p. f (digitsAt us p)) 0 (size us);
+      small = λ p h. rw (getD-tabulate (λ p. f (digitsAt us p)) 0 (size us) 0 p h) (l (digitsAt us (0 + p)));
     }
 
 cells-table : (M : ℕ) → 0 < M → (us : List ℕ) (F : List ℕ → _) → Cells M us (tableOf M us F)

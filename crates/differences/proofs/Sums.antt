@@ -10,7 +10,7 @@ use lib.Arith.{digits-div, digits-mod}
 use lib.IntN.{ℤ, pos, _+ℤ_, _*ℤ_}
 use lib.ListN.{drop}
 use lib.Seq.{getD-drop}
-use Rattle.places.specs.Places.{Below, size, vectorAt, placeOf}
+use Rattle.places.specs.Places.{Below, size, digitsAt, placeOf}
 use Rattle.differences.specs.Neighbours.{mixed}
 use Rattle.differences.specs.Statement.{total}
 use Rattle.differences.specs.Table.{choose, binomials, given, sumBelow}
@@ -21,7 +21,7 @@ sum-layer :
     (u : ℕ) (us c : List ℕ) (x : ℕ) (xs : List ℕ) (k j : ℕ) → j ≤ size us
     → sumBelow (u ∷ us) c (x ∷ xs) (k * size us + j)
     ≡ sumBelow (u ∷ us) c (x ∷ xs) (k * size us) + choose x k * sumBelow us (drop (k * size us) c) xs j
-unfolding sumBelow binomials vectorAt
+unfolding sumBelow binomials digitsAt
 sum-layer u us c x xs k zero l = rw add-zero (omega arith)
 sum-layer u us c x xs k (suc j) l =
     ap (sumBelow (u ∷ us) c (x ∷ xs)) (add-suc (k * size us) j)
@@ -40,7 +40,7 @@ sum-layers u us c x xs (suc n) =
 
 pub sum-mixed :
     (us c x : List ℕ) → Below us x → pos (sumBelow us c x (size us)) ≡ mixed (pos 1) x (given us c)
-unfolding sumBelow binomials size vectorAt mixed given placeOf
+unfolding sumBelow binomials size digitsAt mixed given placeOf
 sum-mixed [] c [] b = ap pos (omega arith)
 sum-mixed [] c (x ∷ xs) b = absurd b
 sum-mixed (u ∷ us) c [] b = absurd b

@@ -9,7 +9,7 @@ use lib.IntN.{ℤ, pos, negsuc}
 use lib.ListN.{getD}
 use Rattle.integers.specs.Modulo.{remainder}
 use Rattle.integers.proofs.Remainder.{remainder-pos, remainder-most}
-use Rattle.places.specs.Places.{Below, size, vectorAt, placeOf}
+use Rattle.places.specs.Places.{Below, size, digitsAt, placeOf}
 use Rattle.places.proofs.Places.{oneToOne}
 use Rattle.differences.specs.Neighbours.{combined, mixed}
 use Rattle.differences.specs.Table.{mixedDifference, listed, tableOf, given, sumBelow, summed}
@@ -69,12 +69,12 @@ cells-listed :
 unfolding given
 cells-listed M us ys cells f h =
     sym
-    (tabulate-unique (λ (p : ℕ). f (vectorAt us p)) (size us) 0 ys (cells .full)
+    (tabulate-unique (λ (p : ℕ). f (digitsAt us p)) (size us) 0 ys (cells .full)
     (λ p l.
     let s = cells .small p l in
     sym
-    (h (vectorAt us p) (omega arith) (oneToOne us .below p l)
-    ∙ remainder-pos (getD ys (placeOf us (vectorAt us p)) 0) M
+    (h (digitsAt us p) (omega arith) (oneToOne us .below p l)
+    ∙ remainder-pos (getD ys (placeOf us (digitsAt us p)) 0) M
     ∙ rw (oneToOne us .placed p l) (mod-eq-of-lt s))))
 
 pub sumOfTable : SumOfTable

@@ -14,7 +14,7 @@ use lib.ListN.{getD}
 use Rattle.integers.specs.Modulo.{remainder}
 use Rattle.lists.specs.Lists.{tabulate}
 use Rattle.newton.specs.Difference.{differences}
-use Rattle.places.specs.Places.{size, vectorAt, placeOf}
+use Rattle.places.specs.Places.{size, digitsAt, placeOf}
 
 unfoldable pub mixedDifference : List ℕ → (List ℕ → ℤ) → ℤ
 mixedDifference [] F = F []
@@ -32,7 +32,7 @@ binomials (x ∷ xs) [] = 1
 binomials (x ∷ xs) (k ∷ ks) = choose x k * binomials xs ks
 
 abbrev pub listed : {A : Type 0} → List ℕ → (List ℕ → A) → List A
-listed us f = tabulate (λ (p : ℕ). f (vectorAt us p)) 0 (size us)
+listed us f = tabulate (λ (p : ℕ). f (digitsAt us p)) 0 (size us)
 
 unfoldable pub tableOf : ℕ → List ℕ → (List ℕ → ℤ) → List ℕ
 tableOf M us F = listed us (λ (k : List ℕ). remainder (mixedDifference k F) M)
@@ -43,7 +43,7 @@ given us ys x = pos (getD ys (placeOf us x) 0)
 -- the sum of cell q times the binomials of x, over the first n places q
 unfoldable pub sumBelow : List ℕ → List ℕ → List ℕ → ℕ → ℕ
 sumBelow us c x zero = 0
-sumBelow us c x (suc n) = sumBelow us c x n + getD c n 0 * binomials x (vectorAt us n)
+sumBelow us c x (suc n) = sumBelow us c x n + getD c n 0 * binomials x (digitsAt us n)
 
 unfoldable pub summed : ℕ → List ℕ → List ℕ → List ℕ
 summed M us c = listed us (λ (x : List ℕ). sumBelow us c x (size us) % M)

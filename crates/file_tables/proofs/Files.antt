@@ -25,7 +25,7 @@ use Rattle.grid.specs.declared.Grid.{Grid}
 use Rattle.grid.proofs.Grids.{grid-size, grid-axes, grid-least}
 use Rattle.integers.specs.Modulo.{remainder}
 use Rattle.integers.proofs.Remainder.{remainder-pos, remainder-most}
-use Rattle.places.specs.Places.{Below, size, vectorAt}
+use Rattle.places.specs.Places.{Below, size, digitsAt}
 use Rattle.sizes.specs.Sizes.{maxInputs, Sound}
 use Rattle.sizes.specs.declared.Sizes.{Sizes}
 use Rattle.datapath.specs.Steps.{exact, output}
@@ -105,7 +105,7 @@ module _ {s : List ℕ} {n : ℕ} {z : Sizes} {g : Grid} {scratch table : List �
   unfolding gridSize differencesOf transformOf
   filled outputs out e o =
       let ys = listed (axesOf z) (outputOf s) in
-      let full : length ys ≡ gridSize z = length-tabulate (λ p. outputOf s (vectorAt (axesOf z) p)) 0 (size (axesOf z)) in
+      let full : length ys ≡ gridSize z = length-tabulate (λ p. outputOf s (digitsAt (axesOf z) p)) 0 (size (axesOf z)) in
       in-place z sizes-full sizes-sound g (k .grid) false ys table outputs out (omega (arith, full))
       (e ∙ ap (λ l. l ++ drop (g .size) table) (ap (λ us. listed us (outputOf s)) same-axes ∙ sym (take-all (g .size) ys (omega (arith, full, grid-size z g (k .grid))))))
       o

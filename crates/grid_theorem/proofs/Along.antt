@@ -1,12 +1,13 @@
--- Along one input, the others fixed, the exact value of every step is a polynomial in Newton–Horner form: one case for each operation,
--- and induction on the steps. So two datapaths whose outputs agree at the values below L(m) of that input agree at all of its values.
+-- Along one input, the others fixed, the exact value of every step is a polynomial in Newton–Horner form of the count from any value of that
+-- input: one case for each operation, and induction on the steps. So two datapaths whose outputs agree at L(m) values of that input from one
+-- up agree at all from there up.
 use mathlib.Core.Path.{_≡_, refl, sym, _∙_, ap, ap₂}
 use mathlib.Core.Bool.{true, false, cond}
 use mathlib.Core.Logic.{⊎-elim}
 use mathlib.Core.List.{List, [], _∷_, _++_, map}
 use Prim.Native.Nat.{ℕ, zero, suc, _-_, _^_, _<_}
 use lib.Dec.{eqb}
-use lib.IntN.{ℤ, pos, _+ℤ_, _-ℤ_, _*ℤ_, +ℤ-idl}
+use lib.IntN.{ℤ, pos, _+ℤ_, _-ℤ_, _*ℤ_}
 use lib.ListN.{getD, length, List·getD-map}
 use lib.Pow.{pow-pos}
 use lib.Seq.{getD-append-seam}
@@ -22,25 +23,26 @@ use Rattle.newton.specs.Polynomial.{value}
 use Rattle.newton.proofs.Arithmetic.{value-add, value-sub, value-mul, value-constant, value-shifted}
 use Rattle.newton.proofs.OneVariable.{oneVariable}
 use Rattle.ranges.proofs.Search.{true-or-false}
-use Rattle.datapath.specs.Steps.{inputValue, stepValue, values, exact, output}
+use Rattle.datapath.specs.Steps.{stepValue, values, exact, output}
 use Rattle.datapath.specs.declared.Step.{Step}
 use Rattle.datapath.specs.declared.Step.the-variants.{Input, Constant, Add, Subtract, Multiply}
 use Rattle.grid_theorem.specs.Comparison.{Agree}
 
 -- an entry other than the one between two lists does not depend on that one
-getD-other : (pre post : List ℕ) (t u i : ℕ) → (i ≡ length pre → ⊥) → getD (pre ++ t ∷ post) i 0 ≡ getD (pre ++ u ∷ post) i 0
+getD-other :
+    (pre post : List ℤ) (t u : ℤ) (i : ℕ) → (i ≡ length pre → ⊥) → getD (pre ++ t ∷ post) i (pos 0) ≡ getD (pre ++ u ∷ post) i (pos 0)
 getD-other [] post t u zero n = absurd (n refl)
 getD-other [] post t u (suc i) n = refl
 getD-other (a ∷ pre) post t u zero n = refl
 getD-other (a ∷ pre) post t u (suc i) n = getD-other pre post t u i (λ e. n (ap suc e))
 
-module _ (pre post : List ℕ) where
-  -- the vector with t at the input between pre and post
-  abbrev along : ℕ → List ℕ
-  along t = pre ++ t ∷ post
+module _ (lo : ℤ) (pre post : List ℤ) where
+  -- the vector with the input between pre and post at the count t from lo
+  abbrev along : ℕ → List ℤ
+  along t = pre ++ (lo +ℤ pos t) ∷ post
 
   inputPolynomial : ℕ → List ℤ
-  inputPolynomial i = cond (eqb i (length pre)) (inputValue 0 ∷ pos 1 ∷ []) (inputValue (getD (along 0) i 0) ∷ [])
+  inputPolynomial i = cond (eqb i (length pre)) (lo ∷ pos 1 ∷ []) (getD (along 0) i (pos 0) ∷ [])
 
   stepPolynomial : List (List ℤ) → Step → List ℤ
   stepPolynomial ps (Input i) = inputPolynomial i
@@ -62,14 +64,14 @@ module _ (pre post : List ℕ) where
     at : List ℤ → ℤ
     at p = value p (pos t)
 
-    input-valued : (i : ℕ) → inputValue (getD (along t) i 0) ≡ at (inputPolynomial i)
+    input-valued : (i : ℕ) → getD (along t) i (pos 0) ≡ at (inputPolynomial i)
     unfolding at inputPolynomial
     input-valued i =
         ⊎-elim
         (λ (e : eqb i (length pre) ≡ true).
-        rw (e, eqb-true i (length pre) e, getD-append-seam pre t post 0) (sym (value-shifted (pos 0) (pos t) ∙ +ℤ-idl (pos t))))
+        rw (e, eqb-true i (length pre) e, getD-append-seam pre (lo +ℤ pos t) post (pos 0)) (sym (value-shifted lo (pos t))))
         (λ (e : eqb i (length pre) ≡ false).
-        rw (e, getD-other pre post t 0 i (eqb-false i (length pre) e)) (sym (value-constant _ (pos t))))
+        rw (e, getD-other pre post (lo +ℤ pos t) (lo +ℤ pos 0) i (eqb-false i (length pre) e)) (sym (value-constant _ (pos t))))
         (true-or-false (eqb i (length pre)))
 
     operand : (ps : List (List ℤ)) (l : ℕ) → getD (map at ps) l (pos 0) ≡ at (getD ps l [])
@@ -94,25 +96,27 @@ module _ (pre post : List ℕ) where
     unfolding exact exactPolynomial
     exact-valued ts = rw (all-valued ts (length ts)) (operand (polynomials ts (length ts)) (length ts - 1))
 
--- outputs that agree at the values below L(m) of one input agree at all of its values
+-- outputs that agree at L(m) values of one input from lo up agree at all of its values from there up
 pub agree-along :
-    (m : ℕ) (ts₁ ts₂ : List Step) (pre post : List ℕ) →
-    ((t : ℕ) → t < bound m → Agree m ts₁ ts₂ (pre ++ t ∷ post)) →
+    (m : ℕ) (ts₁ ts₂ : List Step) (lo : ℤ) (pre post : List ℤ) →
+    ((t : ℕ) → t < bound m → Agree m ts₁ ts₂ (pre ++ (lo +ℤ pos t) ∷ post)) →
     (x : ℕ) →
-    Agree m ts₁ ts₂ (pre ++ x ∷ post)
+    Agree m ts₁ ts₂ (pre ++ (lo +ℤ pos x) ∷ post)
 unfolding output at
-agree-along m ts₁ ts₂ pre post agrees x =
-    congruent→equal (exact ts₁ (pre ++ x ∷ post)) (exact ts₂ (pre ++ x ∷ post)) (2 ^ m) (pow-pos m)
+agree-along m ts₁ ts₂ lo pre post agrees x =
+    congruent→equal (exact ts₁ (vector x)) (exact ts₂ (vector x)) (2 ^ m) (pow-pos m)
     (rw (gap x) (oneVariable (2 ^ m) (bound m) (divides-of-mod (2 ^ m) _ (leastBound m .divides)) p below x))
   where
-    p : List ℤ
-    p = Newton.sub (exactPolynomial pre post ts₁) (exactPolynomial pre post ts₂)
+    vector : ℕ → List ℤ
+    vector t = pre ++ (lo +ℤ pos t) ∷ post
 
-    gap : (t : ℕ) → exact ts₁ (pre ++ t ∷ post) -ℤ exact ts₂ (pre ++ t ∷ post) ≡ value p (pos t)
+    p : List ℤ
+    p = Newton.sub (exactPolynomial lo pre post ts₁) (exactPolynomial lo pre post ts₂)
+
+    gap : (t : ℕ) → exact ts₁ (vector t) -ℤ exact ts₂ (vector t) ≡ value p (pos t)
     gap t =
-        ap₂ (λ y z. y -ℤ z) (exact-valued pre post t ts₁) (exact-valued pre post t ts₂)
-        ∙ sym (value-sub (exactPolynomial pre post ts₁) (exactPolynomial pre post ts₂) (pos t))
+        ap₂ (λ y z. y -ℤ z) (exact-valued lo pre post t ts₁) (exact-valued lo pre post t ts₂)
+        ∙ sym (value-sub (exactPolynomial lo pre post ts₁) (exactPolynomial lo pre post ts₂) (pos t))
 
     below : (t : ℕ) → t < bound m → Divides (2 ^ m) (value p (pos t))
-    below t h =
-        rw (gap t) at (equal→congruent (exact ts₁ (pre ++ t ∷ post)) (exact ts₂ (pre ++ t ∷ post)) (2 ^ m) (pow-pos m) (agrees t h))
+    below t h = rw (gap t) at (equal→congruent (exact ts₁ (vector t)) (exact ts₂ (vector t)) (2 ^ m) (pow-pos m) (agrees t h))

@@ -8,7 +8,7 @@ use native.Mathlib.Nat.{div-lt-iff-lt-mul, mod-lt}
 use native.Mathlib.Omega.{arith}
 use lib.ListN.{length, getD, take, List·getD-append, List·getD-eq-default}
 use lib.Seq.{getD-at, getD-take, length-take-le, take-suc}
-use Rattle.places.specs.Places.{size, vectorAt}
+use Rattle.places.specs.Places.{size, digitsAt}
 use Rattle.places.proofs.LastAxis.{length-below, vector-snoc}
 use Rattle.places.proofs.Places.{oneToOne, rest-least, size-snoc}
 use Rattle.vectors.proofs.Digits.{below-at}
@@ -28,34 +28,34 @@ module _ (axes : List ℕ) (d : ℕ) (low : 1 ≤ d) (high : d ≤ length axes) 
 
   -- the vector at place r of the grid without the last axis
   module _ (r : ℕ) (h : r < size (take (d - 1) axes)) where
-    length-front : length (vectorAt (take (d - 1) axes) r) ≡ d - 1
+    length-front : length (digitsAt (take (d - 1) axes) r) ≡ d - 1
     length-front = length-below (take (d - 1) axes) _ (oneToOne (take (d - 1) axes) .below r h) ∙ length-take-le (d - 1) axes (omega arith)
 
-    pub front-most : (i : ℕ) → i < d - 1 → getD (vectorAt (take (d - 1) axes) r) i 0 < getD axes i 0
+    pub front-most : (i : ℕ) → i < d - 1 → getD (digitsAt (take (d - 1) axes) r) i 0 < getD axes i 0
     front-most i g =
         let at : getD (take (d - 1) axes) i 0 ≡ getD axes i 0 = rw getD-take in
         omega (
           arith,
           at,
-          below-at (take (d - 1) axes) (vectorAt (take (d - 1) axes) r) i (oneToOne (take (d - 1) axes) .below r h)
+          below-at (take (d - 1) axes) (digitsAt (take (d - 1) axes) r) i (oneToOne (take (d - 1) axes) .below r h)
               (omega (arith, length-take-le (d - 1) axes (omega arith))),
         )
 
-    pub front-last : getD (vectorAt (take (d - 1) axes) r) (d - 1) 0 ≡ 0
-    front-last = List·getD-eq-default (vectorAt (take (d - 1) axes) r) 0 {n = d - 1} (omega (arith, length-front))
+    pub front-last : getD (digitsAt (take (d - 1) axes) r) (d - 1) 0 ≡ 0
+    front-last = List·getD-eq-default (digitsAt (take (d - 1) axes) r) 0 {n = d - 1} (omega (arith, length-front))
 
   module _ (p : ℕ) (h : p < size (take d axes)) where
     line : p / getD axes (d - 1) 0 < size (take (d - 1) axes)
     line = div-lt-iff-lt-mul (last-axis-least p h) .1 (rw size-lines at h)
 
     abbrev front : List ℕ
-    front = vectorAt (take (d - 1) axes) (p / getD axes (d - 1) 0)
+    front = digitsAt (take (d - 1) axes) (p / getD axes (d - 1) 0)
 
-    split : vectorAt (take d axes) p ≡ front ++ (p % getD axes (d - 1) 0 ∷ [])
-    split = ap (λ us. vectorAt us p) axes-snoc ∙ vector-snoc (take (d - 1) axes) (getD axes (d - 1) 0) p (rw size-lines at h)
+    split : digitsAt (take d axes) p ≡ front ++ (p % getD axes (d - 1) 0 ∷ [])
+    split = ap (λ us. digitsAt us p) axes-snoc ∙ vector-snoc (take (d - 1) axes) (getD axes (d - 1) 0) p (rw size-lines at h)
 
-    pub line-front : (i : ℕ) → i < d - 1 → getD (vectorAt (take d axes) p) i 0 ≡ getD (vectorAt (take (d - 1) axes) (p / getD axes (d - 1) 0)) i 0
+    pub line-front : (i : ℕ) → i < d - 1 → getD (digitsAt (take d axes) p) i 0 ≡ getD (digitsAt (take (d - 1) axes) (p / getD axes (d - 1) 0)) i 0
     line-front i l = ap (λ v. getD v i 0) split ∙ List·getD-append front _ 0 i (omega (arith, length-front _ line))
 
-    pub line-last : getD (vectorAt (take d axes) p) (d - 1) 0 < getD axes (d - 1) 0
+    pub line-last : getD (digitsAt (take d axes) p) (d - 1) 0 < getD axes (d - 1) 0
     line-last = omega (arith, ap (λ v. getD v (d - 1) 0) split ∙ getD-at front _ [] 0 (d - 1) (length-front _ line), mod-lt p (last-axis-least p h))

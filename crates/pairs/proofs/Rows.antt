@@ -17,7 +17,7 @@ use Rattle.fields.specs.File.{widthBytes, sizesOf, stepCount, operation, argume
 use Rattle.fields.specs.Steps.{decoded, stepAt, stepsFrom, stepsOf}
 use Rattle.grid.specs.Grid.{axesOf, gridSize}
 use Rattle.integers.specs.Modulo.{remainder}
-use Rattle.places.specs.Places.{size, vectorAt}
+use Rattle.places.specs.Places.{size, digitsAt}
 use Rattle.printed.specs.Listings.{a·dp, b·dp}
 use Rattle.ranges.specs.Search.{first, every}
 use Rattle.sessions.specs.Calls.{answerTo, answers, vectorsRun}
@@ -75,7 +75,7 @@ unfolding found claimed
     refusalOf shownStep fileNumber headFault tooShort shortOfHead badOutput badInputs badCount badWidths widthRule badLength
     faultyStep faultyAt stepFault badOperation badArgument argumentRule operandsRule
     widthBytes sizesOf stepCount operation argument little stepsOf stepsFrom stepAt decoded
-    axesOf gridSize axis bound log2 greedy size vectorAt
+    axesOf gridSize axis bound log2 greedy size digitsAt
     every first firstDifference differsAt output exact values stepValue remainder
 all-found = refl
 

@@ -7,7 +7,7 @@ use Prim.Native.Nat.{ℕ, suc, _+_, _*_, _/_, _%_, _<_}
 use native.Mathlib.Nat.{div-add-mod', div-lt-iff-lt-mul, mod-lt}
 use native.Mathlib.Omega.{arith}
 use lib.ListN.{length}
-use Rattle.places.specs.Places.{Below, size, vectorAt, placeOf}
+use Rattle.places.specs.Places.{Below, size, digitsAt, placeOf}
 use Rattle.places.proofs.Places.{oneToOne, rest-least, size-snoc}
 
 pub length-below : (us x : List ℕ) → Below us x → length x ≡ length us
@@ -30,11 +30,11 @@ place-snoc [] (y ∷ ys) u t b = absurd b
 place-snoc (w ∷ us) [] u t b = absurd b
 place-snoc (w ∷ us) (y ∷ ys) u t b = rw (size-snoc us u, place-snoc us ys u t (b .1)) (omega arith)
 
-pub vector-snoc : (us : List ℕ) (u p : ℕ) → p < size us * u → vectorAt (us ++ (u ∷ [])) p ≡ vectorAt us (p / u) ++ (p % u ∷ [])
+pub vector-snoc : (us : List ℕ) (u p : ℕ) → p < size us * u → digitsAt (us ++ (u ∷ [])) p ≡ digitsAt us (p / u) ++ (p % u ∷ [])
 vector-snoc us u p h =
     let some = rest-least (size us) u p h in
     let line = div-lt-iff-lt-mul some .1 h in
     let b = oneToOne us .below (p / u) line in
-    ap (vectorAt (us ++ (u ∷ [])))
-    (sym (place-snoc us (vectorAt us (p / u)) u (p % u) b ∙ ap (λ r. r * u + p % u) (oneToOne us .placed (p / u) line) ∙ div-add-mod' p u))
-    ∙ oneToOne (us ++ (u ∷ [])) .found _ (below-snoc us (vectorAt us (p / u)) u (p % u) b (mod-lt p some))
+    ap (digitsAt (us ++ (u ∷ [])))
+    (sym (place-snoc us (digitsAt us (p / u)) u (p % u) b ∙ ap (λ r. r * u + p % u) (oneToOne us .placed (p / u) line) ∙ div-add-mod' p u))
+    ∙ oneToOne (us ++ (u ∷ [])) .found _ (below-snoc us (digitsAt us (p / u)) u (p % u) b (mod-lt p some))

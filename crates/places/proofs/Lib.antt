@@ -1,3 +1,4 @@
 pub mod LastAxis
 pub mod Order
 pub mod Places
+pub mod Vectors

@@ -8,7 +8,7 @@ use Rattle.fields.specs.File.{widthBytes, sizesOf, stepCount, operation, argume
 use Rattle.fields.specs.Steps.{decoded, stepAt, stepsFrom, stepsOf}
 use Rattle.grid.specs.Grid.{axesOf, gridSize}
 use Rattle.integers.specs.Modulo.{remainder}
-use Rattle.places.specs.Places.{size, vectorAt}
+use Rattle.places.specs.Places.{size, digitsAt}
 use Rattle.ranges.specs.Search.{first, every}
 use Rattle.sessions.specs.Demand3.{firstPlace, stop}
 use Rattle.sessions.specs.Session.{sameSizes, pairRefusal, noSession, opened}
@@ -30,7 +30,7 @@ unfolding listingTable refusedTable a·dp b·dp ten-product ten-zero
     refusalOf shownStep fileNumber headFault tooShort shortOfHead badOutput badInputs badCount badWidths widthRule badLength
     faultyStep faultyAt stepFault badOperation badArgument argumentRule operandsRule
     widthBytes sizesOf stepCount operation argument little stepsOf stepsFrom stepAt decoded
-    axesOf gridSize axis bound log2 greedy size vectorAt
+    axesOf gridSize axis bound log2 greedy size digitsAt
     every first firstDifference differsAt output exact values stepValue remainder
 computed = (refl, refl)
 

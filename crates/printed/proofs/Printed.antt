@@ -12,7 +12,7 @@ use borrow.Author.Tests.{lt-ltb, le-ltb, eq-eqb, ne-eqb}
 use Rattle.evaluate.specs.Evaluate.{outputOf}
 use Rattle.fields.specs.File.{sizesOf}
 use Rattle.grid.specs.Grid.{axesOf, gridSize}
-use Rattle.places.specs.Places.{vectorAt}
+use Rattle.places.specs.Places.{digitsAt}
 use Rattle.sessions.specs.Demand3.{firstPlace, stop, stopVector, ShowsFirst, Settled}
 use Rattle.sessions.specs.Session.{opened, plainAnswer, differsAnswer}
 use Rattle.sessions.specs.declared.Kind.the-variants.{Equivalent}
@@ -45,14 +45,14 @@ module _ (f₁ f₂ : List ℕ) (o : opened f₁ f₂ .refusal .number ≡ 0) wh
 
   -- some place does
   module _ (l : place < G) where
-    answered : Settled f₁ f₂ (differsAnswer f₁ f₂ (vectorAt (axesOf (sizesOf f₁)) place) 0)
+    answered : Settled f₁ f₂ (differsAnswer f₁ f₂ (digitsAt (axesOf (sizesOf f₁)) place) 0)
     answered = settled f₁ f₂ (pair-accepted f₁ f₂ o) _ (differs 0 l refl)
 
     pub not-equal : ¬ AllEqual f₁ f₂
     unfolding differsAnswer
     not-equal all = let e = answered .equivalent .1 all in let q : _≡_ {A = ℕ} 0 1 = cc in omega arith
 
-    shows : ShowsFirst f₁ f₂ (differsAnswer f₁ f₂ (vectorAt (axesOf (sizesOf f₁)) place) 0)
+    shows : ShowsFirst f₁ f₂ (differsAnswer f₁ f₂ (digitsAt (axesOf (sizesOf f₁)) place) 0)
     unfolding differsAnswer
     shows = answered .differs refl
 

@@ -13,7 +13,7 @@ use Rattle.fields.specs.File.{sizesOf}
 use Rattle.fields.specs.Steps.{stepsOf}
 use Rattle.grid.specs.Grid.{widthsOf, axesOf, gridSize}
 use Rattle.plan.proofs.Axes.{file-grid-least}
-use Rattle.places.specs.Places.{vectorAt}
+use Rattle.places.specs.Places.{digitsAt}
 use Rattle.sizes.specs.Sizes.{isRefusal}
 use Rattle.sizes.specs.declared.Sizes.{Sizes}
 use Rattle.grid_theorem.specs.Comparison.{Agree, IsFirst}
@@ -72,8 +72,8 @@ module _ (f₁ f₂ : List ℕ) (pair : isRefusal (pairRefusal f₁ f₂) ≡ fa
       same-outputs x .1 (onGrid .none none x b)
 
   -- some place does
-  at-stop : place < gridSize (sizesOf f₁) → vectorAt (axesOf (sizesOf f₁)) place ≡ stopVector f₁ f₂
-  at-stop p = ap (vectorAt (axesOf (sizesOf f₁))) (omega (arith, stop-differs f₁ f₂ p))
+  at-stop : place < gridSize (sizesOf f₁) → digitsAt (axesOf (sizesOf f₁)) place ≡ stopVector f₁ f₂
+  at-stop p = ap (digitsAt (axesOf (sizesOf f₁))) (omega (arith, stop-differs f₁ f₂ p))
 
   first-differs : place < gridSize (sizesOf f₁) → IsFirst m widths (stepsOf f₁) (stepsOf f₂) (stopVector f₁ f₂)
   unfolding gridSize axesOf firstPlace

@@ -27,7 +27,7 @@ use Rattle.evaluate.specs.Evaluate.{outputOf}
 use Rattle.fields.specs.File.{sizesOf}
 use Rattle.fields.specs.Steps.{stepsOf}
 use Rattle.grid.specs.Grid.{widthsOf, axesOf, gridSize}
-use Rattle.places.specs.Places.{Below, vectorAt}
+use Rattle.places.specs.Places.{Below, digitsAt}
 use Rattle.grid_theorem.specs.Comparison.{firstDifference, IsFirst}
 use Rattle.sessions.specs.Calls.{Call, answerTo, sessionAfter, answers, IsRefused, IsVerdict, budgets, vectorsRun, Each}
 use Rattle.sizes.specs.Padded.{padded}
@@ -59,7 +59,7 @@ FullWidth f₁ x = Below (ranges (widthsOf (sizesOf f₁))) x
 
 -- the grid's vector at place D − 1
 abbrev pub stopVector : List ℕ → List ℕ → List ℕ
-stopVector f₁ f₂ = vectorAt (axesOf (sizesOf f₁)) (stop f₁ f₂ - 1)
+stopVector f₁ f₂ = digitsAt (axesOf (sizesOf f₁)) (stop f₁ f₂ - 1)
 
 pub record StopInRange (f₁ f₂ : List ℕ) : Type 0 where
   pub low : 1 ≤ stop f₁ f₂

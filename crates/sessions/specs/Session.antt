@@ -20,7 +20,7 @@ use Rattle.evaluate.specs.Evaluate.{outputOf, shortScratch}
 use Rattle.file.specs.Check.{fileNumber, refusalOf}
 use Rattle.fields.specs.File.{sizesOf}
 use Rattle.grid.specs.Grid.{axesOf, gridSize}
-use Rattle.places.specs.Places.{vectorAt}
+use Rattle.places.specs.Places.{digitsAt}
 use Rattle.ranges.specs.Search.{first, every}
 use Rattle.sizes.specs.Sizes.{maxInputs, within, refusedBy, accepted, isRefusal}
 use Rattle.sizes.specs.declared.Refusal.{Refusal}
@@ -119,7 +119,7 @@ progress s₁ s₂ σ B G q =
     cond (ltb q (σ .position + min B (G - σ .position)))
     (record {
       session = movedTo σ (q + 1) Differ;
-      answer = differsAnswer s₁ s₂ (vectorAt (axesOf (sizesOf s₁)) q) (q + 1 - σ .position);
+      answer = differsAnswer s₁ s₂ (digitsAt (axesOf (sizesOf s₁)) q) (q + 1 - σ .position);
     })
     (cond (leb G (σ .position + B))
     (record { session = movedTo σ G Equal; answer = plainAnswer Equivalent (G - σ .position) })

@@ -9,7 +9,7 @@ use lib.Arith.{digits-lt, digits-div, digits-mod}
 use lib.IntN.{ℤ, pos}
 use lib.ListN.{length, getD, drop}
 use lib.Seq.{getD-drop}
-use Rattle.places.specs.Places.{size, vectorAt, placeOf}
+use Rattle.places.specs.Places.{size, digitsAt, placeOf}
 use Rattle.differences.specs.Neighbours.{mixed}
 use Rattle.differences.specs.Table.{listed, given}
 use Rattle.lists.proofs.Tabulate.{length-tabulate, getD-tabulate, tabulate-unique}
@@ -25,7 +25,7 @@ use Rattle.transform.specs.Transform.{blockwise}
 blockwise-at :
     (s : ℤ) (vs l : List ℕ) (b p : ℕ) → p < size vs → b * size vs + p < length l
     → getD (blockwise s vs l) (b * size vs + p) 0
-    ≡ word (mixed s (vectorAt vs p) (given vs (drop (b * size vs) l)))
+    ≡ word (mixed s (digitsAt vs p) (given vs (drop (b * size vs) l)))
 unfolding blockwise
 blockwise-at s vs l b p h i =
     getD-tabulate _ 0 (length l) 0 (b * size vs + p) i
@@ -36,7 +36,7 @@ unfolding blockwise
 length-blockwise s vs l = length-tabulate _ 0 (length l)
 
 pub blockwise-start : (s : ℤ) (l : List ℕ) → ((q : ℕ) → getD l q 0 < 2 ^ 64) → blockwise s [] l ≡ l
-unfolding blockwise mixed given placeOf size vectorAt
+unfolding blockwise mixed given placeOf size digitsAt
 blockwise-start s l h =
     sym
     (tabulate-unique _ (length l) 0 l refl
@@ -49,7 +49,7 @@ blockwise-start s l h =
 pub blockwise-step :
     (s : ℤ) (u : ℕ) (vs l : List ℕ) → 0 < u → 0 < size vs
     → passed s u (size vs) (blockwise s vs l) ≡ blockwise s (u ∷ vs) l
-unfolding passed column size vectorAt mixed given placeOf
+unfolding passed column size digitsAt mixed given placeOf
 blockwise-step s u vs l zu zw =
     sym
     (lines-unique u (size vs) (whole s) (blockwise s vs l) (blockwise s (u ∷ vs) l)
@@ -62,20 +62,20 @@ blockwise-step s u vs l zu zw =
     ∙ blockwise-at s (u ∷ vs) l b (k * size vs + p) (digits-lt hk hp) (omega arith)
     ∙ rw (digits-div k hp, digits-mod k hp)
     (whole-word s k
-    (λ (t : ℕ). mixed s (vectorAt vs p) (λ (ys : List ℕ). given (u ∷ vs) (drop (b * (u * size vs)) l) (t ∷ ys)))
+    (λ (t : ℕ). mixed s (digitsAt vs p) (λ (ys : List ℕ). given (u ∷ vs) (drop (b * (u * size vs)) l) (t ∷ ys)))
     (column u (size vs) (blockwise s vs l) b p)
     (λ t j.
     ap word (layer b p t)
     ∙ sym
     (ap (λ (n : ℕ). word (pos n)) (blockwise-at s vs l (b * u + t) p hp (omega (arith, mul-le-mul-right (size vs) j)))
-    ∙ word-twice (mixed s (vectorAt vs p) (given vs (drop ((b * u + t) * size vs) l))))))))
+    ∙ word-twice (mixed s (digitsAt vs p) (given vs (drop ((b * u + t) * size vs) l))))))))
   where
     layer :
         (b p t : ℕ)
-        → mixed s (vectorAt vs p) (λ (ys : List ℕ). given (u ∷ vs) (drop (b * (u * size vs)) l) (t ∷ ys))
-        ≡ mixed s (vectorAt vs p) (given vs (drop ((b * u + t) * size vs) l))
+        → mixed s (digitsAt vs p) (λ (ys : List ℕ). given (u ∷ vs) (drop (b * (u * size vs)) l) (t ∷ ys))
+        ≡ mixed s (digitsAt vs p) (given vs (drop ((b * u + t) * size vs) l))
     layer b p t =
-        ap (mixed s (vectorAt vs p))
+        ap (mixed s (digitsAt vs p))
         (fun-ext λ ys.
         ap pos
         (getD-drop (b * (u * size vs)) l (t * size vs + placeOf vs ys) 0
@@ -90,7 +90,7 @@ pub blockwise-end :
     → blockwise s us l ≡ listed us (λ (x : List ℕ). word (mixed s x (given us l)))
 unfolding blockwise
 blockwise-end s us l e =
-    tabulate-unique (λ (p : ℕ). word (mixed s (vectorAt us p) (given us l))) (size us) 0 (blockwise s us l)
+    tabulate-unique (λ (p : ℕ). word (mixed s (digitsAt us p) (given us l))) (size us) 0 (blockwise s us l)
     (length-blockwise s us l ∙ e)
     (λ p h.
     getD-tabulate _ 0 (length l) 0 p (omega arith)

@@ -5,7 +5,7 @@ use mathlib.Core.List.{List, _∷_, map}
 use Prim.Native.Nat.{ℕ, zero, suc, _+_, _%_, _^_, _≤_}
 use lib.IntN.{ℤ, pos, negsuc}
 use Rattle.integers.specs.Modulo.{remainder}
-use Rattle.places.specs.Places.{size, vectorAt}
+use Rattle.places.specs.Places.{size, digitsAt}
 use Rattle.differences.specs.Neighbours.{mixed}
 use Rattle.differences.specs.Table.{mixedDifference, listed, tableOf, given, sumBelow, summed}
 use Rattle.lists.specs.Lists.{tabulate}
@@ -25,7 +25,7 @@ cut-listed :
     (m : ℕ) → m ≤ 64 → (us : List ℕ) (F : List ℕ → ℤ)
     → map (λ (x : ℕ). x % 2 ^ m) (listed us (λ (x : List ℕ). word (F x))) ≡ listed us (λ (x : List ℕ). remainder (F x) (2 ^ m))
 cut-listed m h us F =
-    map-tabulate (λ (x : ℕ). x % 2 ^ m) (λ (p : ℕ). word (F (vectorAt us p))) 0 (size us)
+    map-tabulate (λ (x : ℕ). x % 2 ^ m) (λ (p : ℕ). word (F (digitsAt us p))) 0 (size us)
     ∙ listed-equal us (λ (x : List ℕ). word (F x) % 2 ^ m) (λ (x : List ℕ). remainder (F x) (2 ^ m)) (λ x _. word-cut (F x) m h)
 
 table-listed :

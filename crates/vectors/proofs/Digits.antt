@@ -7,7 +7,7 @@ use Prim.Native.Nat.{ℕ, zero, suc, _+_, _*_, _-_, _<_, _≤_}
 use native.Mathlib.Omega.{arith}
 use lib.ListN.{length, getD, take, drop, set, replicate, length-set, length-replicate, replicate-append-replicate, List·getD-append}
 use lib.Seq.{drop-cons, drop-length, set-append-left, take-at}
-use Rattle.places.specs.Places.{Below, size, vectorAt, placeOf}
+use Rattle.places.specs.Places.{Below, size, digitsAt, placeOf}
 use Rattle.places.proofs.LastAxis.{length-below}
 use Rattle.places.proofs.Places.{oneToOne}
 use Rattle.sizes.specs.Sizes.{maxInputs}
@@ -96,15 +96,15 @@ module _ {us v x : List ℕ} (g : Digits us v x) where
         below = below-set us x i a (g .below) l;
       }
 
-  pub placed : (p : ℕ) → placeOf us x ≡ p → v ≡ padded (vectorAt us p)
-  placed p e = g .shape ∙ ap padded (sym (oneToOne us .found x (g .below)) ∙ ap (vectorAt us) e)
+  pub placed : (p : ℕ) → placeOf us x ≡ p → v ≡ padded (digitsAt us p)
+  placed p e = g .shape ∙ ap padded (sym (oneToOne us .found x (g .below)) ∙ ap (digitsAt us) e)
 
 -- two places that hold the same are one
-pub same-place : (us : List ℕ) (p q : ℕ) → p < size us → q < size us → padded (vectorAt us p) ≡ padded (vectorAt us q) → p ≡ q
+pub same-place : (us : List ℕ) (p q : ℕ) → p < size us → q < size us → padded (digitsAt us p) ≡ padded (digitsAt us q) → p ≡ q
 same-place us p q hp hq e = sym (oneToOne us .placed p hp) ∙ ap (placeOf us) same ∙ oneToOne us .placed q hq
   where
-    front : (r : ℕ) → r < size us → take (length us) (padded (vectorAt us r)) ≡ vectorAt us r
-    front r h = take-at (vectorAt us r) _ (length us) (length-below us (vectorAt us r) (oneToOne us .below r h))
+    front : (r : ℕ) → r < size us → take (length us) (padded (digitsAt us r)) ≡ digitsAt us r
+    front r h = take-at (digitsAt us r) _ (length us) (length-below us (digitsAt us r) (oneToOne us .below r h))
 
-    same : vectorAt us p ≡ vectorAt us q
+    same : digitsAt us p ≡ digitsAt us q
     same = sym (front p hp) ∙ ap (take (length us)) e ∙ front q hq

@@ -4,13 +4,13 @@
 use mathlib.Core.Path.{_≡_}
 use mathlib.Core.List.{List}
 use Prim.Native.Nat.{ℕ, _+_, _<_}
-use Rattle.places.specs.Places.{size, vectorAt}
+use Rattle.places.specs.Places.{size, digitsAt}
 use Rattle.sizes.specs.Padded.{padded}
 
 pub record Placed (us v : List ℕ) : Type 0 where
   pub place : ℕ
   pub inside : place < size us
-  pub shape : v ≡ padded (vectorAt us place)
+  pub shape : v ≡ padded (digitsAt us place)
 
 abbrev pub Next : List ℕ → List ℕ → List ℕ → Type 0
-Next us v r = (p : ℕ) → p + 1 < size us → v ≡ padded (vectorAt us p) → r ≡ padded (vectorAt us (p + 1))
+Next us v r = (p : ℕ) → p + 1 < size us → v ≡ padded (digitsAt us p) → r ≡ padded (digitsAt us (p + 1))

@@ -3,7 +3,7 @@ use sizes::INPUTS;
 ghost use mathlib.Core.Path.{_≡_};
 ghost use Prim.Native.Nat.{_≤_, _<_};
 ghost use lib.ListN.{length, take};
-ghost use Rattle.places.specs.Places.{size, vectorAt};
+ghost use Rattle.places.specs.Places.{size, digitsAt};
 ghost use Rattle.sizes.specs.Sizes.{maxInputs};
 ghost use Rattle.sizes.specs.Padded.{padded};
 ghost use Rattle.vectors.specs.Vectors.{Placed, Next};
@@ -12,7 +12,7 @@ ghost use Rattle.vectors.specs.Vectors.{Placed, Next};
 pub fn vector_at(axes: [u64; INPUTS], d: usize, p: u64) -> [u64; INPUTS]
     requires { ⌜ d ≤ maxInputs ⌝ }
     requires { ⌜ p < size (take d axes) ⌝ }
-    ensures { λ r. ⌜ r ≡ padded (vectorAt (take d axes) p) ⌝ }
+    ensures { λ r. ⌜ r ≡ padded (digitsAt (take d axes) p) ⌝ }
 {
     let mut v = [0u64; INPUTS];
     let mut rest = p;

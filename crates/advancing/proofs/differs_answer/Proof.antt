@@ -10,7 +10,7 @@ use Rattle.evaluate.specs.Evaluate.{outputOf}
 use Rattle.fields.specs.File.{sizesOf}
 use Rattle.grid.specs.Grid.{axesOf, gridSize}
 use Rattle.lists.proofs.Lists.{drop-later}
-use Rattle.places.specs.Places.{vectorAt}
+use Rattle.places.specs.Places.{digitsAt}
 use Rattle.plan.proofs.Numbers as plan
 use Rattle.sessions.specs.Session.{differsAnswer}
 use Rattle.sessions.specs.declared.Kind.the-variants.{Differs}
@@ -67,8 +67,8 @@ returns c =
     let a = e .args in
     let s₁ = now (a .file1) in
     let s₂ = now (a .file2) in
-    let x = vectorAt (axesOf (sizesOf s₁)) (a .place) in
-    let v = c .before .before .before .before .before .before .before .before .before .before .before .vector-at .ensures ∙ ap (λ us. padded (vectorAt us (a .place))) (plan.grid (e .pre .0)) in
+    let x = digitsAt (axesOf (sizesOf s₁)) (a .place) in
+    let v = c .before .before .before .before .before .before .before .before .before .before .before .vector-at .ensures ∙ ap (λ us. padded (digitsAt us (a .place))) (plan.grid (e .pre .0)) in
     let first = c .before .before .before .before .before .before .before .before .output-at .ensures in
     let second = c .before .before .before .output-at2 .ensures in
     let o₁ = first .output ∙ ap (outputOf s₁) v ∙ output-padded s₁ x in

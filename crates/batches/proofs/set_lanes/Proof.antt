@@ -10,7 +10,7 @@ use native.Mathlib.Omega.{arith}
 use borrow.Author.Needs.{needs}
 use denote.Ref.{now}
 use lib.ListN.{length, getD, take}
-use Rattle.places.specs.Places.{vectorAt}
+use Rattle.places.specs.Places.{digitsAt}
 use Rattle.rows.specs.Rows.{lane}
 use Rattle.sizes.specs.Sizes.{maxInputs}
 use Rattle.sizes.specs.Padded.{padded}
@@ -22,17 +22,17 @@ record Columns (w : ℕ) (us : List ℕ) (p live : ℕ) (inputs₀ inputs v : Li
   some : 1 ≤ l
   within : l ≤ live
   long : length inputs ≡ length inputs₀
-  vector : v ≡ padded (vectorAt us (p + (l - 1)))
+  vector : v ≡ padded (digitsAt us (p + (l - 1)))
   whole : length v ≡ maxInputs
-  columns : (i k : ℕ) → i < maxInputs → k < l → lane w inputs i k ≡ getD (vectorAt us (p + k)) i 0
+  columns : (i k : ℕ) → i < maxInputs → k < l → lane w inputs i k ≡ getD (digitsAt us (p + k)) i 0
   others : (i k : ℕ) → l ≤ k → k < w → lane w inputs i k ≡ lane w inputs₀ i k
 
 module _ (w : ℕ) (us : List ℕ) (p live : ℕ) (inputs₀ inputs' v : List ℕ) (long : length inputs' ≡ length inputs₀) (room : live ≤ w) (whole : length v ≡ maxInputs) where
   -- lane l is set to the vector v at place q = p + l
   more :
-      (inputs : List ℕ) (l q : ℕ) → l < live → v ≡ padded (vectorAt us q) → q ≡ p + l → ((i : ℕ) → i < maxInputs → lane w inputs' i l ≡ getD v i 0) →
+      (inputs : List ℕ) (l q : ℕ) → l < live → v ≡ padded (digitsAt us q) → q ≡ p + l → ((i : ℕ) → i < maxInputs → lane w inputs' i l ≡ getD v i 0) →
       ((i k : ℕ) → k < w → ¬ (k ≡ l) → lane w inputs' i k ≡ lane w inputs i k) →
-      ((i k : ℕ) → i < maxInputs → k < l → lane w inputs i k ≡ getD (vectorAt us (p + k)) i 0) →
+      ((i k : ℕ) → i < maxInputs → k < l → lane w inputs i k ≡ getD (digitsAt us (p + k)) i 0) →
       ((i k : ℕ) → l + 1 ≤ k → k < w → lane w inputs' i k ≡ lane w inputs₀ i k) → Columns w us p live inputs₀ inputs' v (l + 1)
   more inputs l q h e at here others before after =
       let back : l + 1 - 1 ≡ l = omega arith in
@@ -43,14 +43,14 @@ module _ (w : ℕ) (us : List ℕ) (p live : ℕ) (inputs₀ inputs' v : List �
         vector = rw (back, ← at) e;
         whole = whole;
         columns = λ i k hi hk. ⊎-elim
-            (λ (same : k ≡ l). rw (same, ← at) (here i hi ∙ ap (λ w. getD w i 0) e ∙ padded-entry (vectorAt us q) i))
+            (λ (same : k ≡ l). rw (same, ← at) (here i hi ∙ ap (λ w. getD w i 0) e ∙ padded-entry (digitsAt us q) i))
             (λ (less : k < l). others i k (omega arith) (λ same. omega arith) ∙ before i k hi less)
             (eq-or-lt-of-le (omega arith));
         others = after;
       }
 
   start :
-      (inputs : List ℕ) → 1 ≤ live → v ≡ padded (vectorAt us p) → ((i : ℕ) → i < maxInputs → lane w inputs' i 0 ≡ getD v i 0) →
+      (inputs : List ℕ) → 1 ≤ live → v ≡ padded (digitsAt us p) → ((i : ℕ) → i < maxInputs → lane w inputs' i 0 ≡ getD v i 0) →
       ((i k : ℕ) → k < w → ¬ (k ≡ 0) → lane w inputs' i k ≡ lane w inputs i k) →
       ((i k : ℕ) → 1 ≤ k → k < w → lane w inputs' i k ≡ lane w inputs₀ i k) → Columns w us p live inputs₀ inputs' v 1
   start inputs h e here others after = more inputs 0 p h e (omega arith) here others (λ i k hi hk. absurd (omega arith)) after

@@ -13,7 +13,7 @@ use Rattle.lists.proofs.Tabulate.{length-tabulate, getD-tabulate}
 use Rattle.evaluate.specs.Evaluate.{outputOf}
 use Rattle.evaluate.proofs.Words.{output-entries}
 use Rattle.evaluate.specs.Run.{Ready}
-use Rattle.places.specs.Places.{size, vectorAt}
+use Rattle.places.specs.Places.{size, digitsAt}
 use Rattle.sizes.specs.Sizes.{maxInputs}
 use Rattle.sizes.specs.Padded.{padded}
 use Rattle.vectors.specs.Vectors.{Placed}
@@ -31,7 +31,7 @@ record Filled (s : List ℕ) (n : ℕ) (axes : List ℕ) (d count : ℕ) (scratc
   long : length scratch ≡ length scratch₀
   kept : KeptPast n scratch₀ scratch
   full : length v ≡ maxInputs
-  vector : p < count → v ≡ padded (vectorAt (take d axes) p)
+  vector : p < count → v ≡ padded (digitsAt (take d axes) p)
 
 module _
     (s : List ℕ) (n : ℕ) (axes : List ℕ) (d count : ℕ) (scratch₀ table₀ scratch table v : List ℕ) (p : ℕ)
@@ -62,13 +62,13 @@ module _
       output-here : outputOf s v ≡ getD (listed (take d axes) (outputOf s)) p 0
       output-here =
           ap (outputOf s) (k .vector t)
-          ∙ output-entries s (padded (vectorAt (take d axes) p)) (vectorAt (take d axes) p) (padded-entry (vectorAt (take d axes) p))
-          ∙ sym (getD-tabulate (λ q. outputOf s (vectorAt (take d axes) q)) 0 (size (take d axes)) 0 p inside ∙ ap (λ q. outputOf s (vectorAt (take d axes) q)) (omega arith))
+          ∙ output-entries s (padded (digitsAt (take d axes) p)) (digitsAt (take d axes) p) (padded-entry (digitsAt (take d axes) p))
+          ∙ sym (getD-tabulate (λ q. outputOf s (digitsAt (take d axes) q)) 0 (size (take d axes)) 0 p inside ∙ ap (λ q. outputOf s (digitsAt (take d axes) q)) (omega arith))
 
       more :
           (y : ℕ) (scratch' v' : List ℕ) → y ≡ outputOf s v → length scratch' ≡ length scratch → drop n scratch' ≡ drop n scratch →
           length v' ≡ maxInputs →
-          ((q : ℕ) → q + 1 < size (take d axes) → v ≡ padded (vectorAt (take d axes) q) → v' ≡ padded (vectorAt (take d axes) (q + 1))) →
+          ((q : ℕ) → q + 1 < size (take d axes) → v ≡ padded (digitsAt (take d axes) q) → v' ≡ padded (digitsAt (take d axes) (q + 1))) →
           Filled s n axes d count scratch₀ table₀ scratch' (set table p y) v' (p + 1)
       more y scratch' v' e l q w step =
           record {

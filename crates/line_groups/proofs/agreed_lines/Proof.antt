@@ -23,7 +23,7 @@ use Rattle.plan.specs.Comparison.{outputsDiffer}
 use Rattle.plan.specs.declared.Plan.{Plan}
 use Rattle.plan.proofs.Axes.{file-grid-least}
 use Rattle.plan.proofs.Numbers as plan
-use Rattle.places.specs.Places.{size, vectorAt}
+use Rattle.places.specs.Places.{size, digitsAt}
 use Rattle.rows.specs.Rows.{maxLanes, lane}
 use Rattle.sizes.specs.Sizes.{maxInputs}
 use Rattle.grid_lines.specs.Lines.{lastAxis}
@@ -89,13 +89,13 @@ module _
             | yes front ↦ omega (arith, at, axis, front-most axes d some (k .enough) (r + l) line i front)
             | no end ↦
                 let last : i ≡ d - 1 = omega (arith, h, plan.inputs (k .prepared .planned)) in
-                let zero : getD (vectorAt (take (d - 1) axes) (r + l)) i 0 ≡ 0 = rw last (front-last axes d some (k .enough) (r + l) line) in
+                let zero : getD (digitsAt (take (d - 1) axes) (r + l)) i 0 ≡ 0 = rw last (front-last axes d some (k .enough) (r + l) line) in
                 let pos : 0 < getD axes i 0 = rw last last-least in
                 omega (arith, at, axis)
           ]
 
       module _
-          (inputs' : List ℕ) (filled : (i l : ℕ) → i < maxInputs → l < w → lane w inputs' i l ≡ getD (vectorAt (take (d - 1) axes) (r + l)) i 0)
+          (inputs' : List ℕ) (filled : (i l : ℕ) → i < maxInputs → l < w → lane w inputs' i l ≡ getD (digitsAt (take (d - 1) axes) (r + l)) i 0)
           (a : ℕ) (few : a ≤ w)
           (agrees : (l : ℕ) (x : List ℕ) → l < a → Front w d inputs' l x → getD x (d - 1) 0 < u → outputOf s₁ x ≡ outputOf s₂ x)
         where
@@ -108,9 +108,9 @@ module _
               let below : p / u < r + a = div-lt-iff-lt-mul last-least .1 high in
               let l : p / u - r < a = omega arith in
               let e : r + (p / u - r) ≡ p / u = omega arith in
-              let front : Front w d inputs' (p / u - r) (vectorAt (take d axes) p) =
-              λ i g. filled i (p / u - r) (omega (arith, g, plan.inputs (k .prepared .planned), k .prepared .planned .files .sound₁ .inputsHigh)) (omega arith) ∙ ap (λ q. getD (vectorAt (take (d - 1) axes) q) i 0) e ∙ sym (line-front axes d some (k .enough) p h i g) in
-              let same = agrees (p / u - r) (vectorAt (take d axes) p) l front (line-last axes d some (k .enough) p h) in
+              let front : Front w d inputs' (p / u - r) (digitsAt (take d axes) p) =
+              λ i g. filled i (p / u - r) (omega (arith, g, plan.inputs (k .prepared .planned), k .prepared .planned .files .sound₁ .inputsHigh)) (omega arith) ∙ ap (λ q. getD (digitsAt (take (d - 1) axes) q) i 0) e ∙ sym (line-front axes d some (k .enough) p h i g) in
+              let same = agrees (p / u - r) (digitsAt (take d axes) p) l front (line-last axes d some (k .enough) p h) in
               sym (output-test s₁ s₂ p (k .prepared .planned .files .same)) ∙ ap not (eq-eqb _ _ (rw (plan.grid (k .prepared .planned)) at same))
 
           passed : (p : ℕ) → from * u ≤ p → p < (r + a) * u → outputsDiffer s₁ s₂ p ≡ false

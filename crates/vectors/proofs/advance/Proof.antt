@@ -7,7 +7,7 @@ use Prim.Native.Nat.{ℕ, suc, _+_, _*_, _-_, _≤_, _<_}
 use native.Mathlib.Omega.{arith}
 use lib.ListN.{length, getD, take, drop, set, length-set}
 use lib.Seq.{length-take-le, getD-take}
-use Rattle.places.specs.Places.{size, vectorAt, placeOf}
+use Rattle.places.specs.Places.{size, digitsAt, placeOf}
 use Rattle.places.proofs.Places.{oneToOne}
 use Rattle.sizes.specs.Padded.{padded}
 use Rattle.vectors.specs.Vectors.{Placed}
@@ -33,7 +33,7 @@ start axes d v l s =
       within = omega arith;
       long = l;
       first = s;
-      vector = vectorAt us (s .place);
+      vector = digitsAt us (s .place);
       digits = record { shape = s .shape; below = oneToOne us .below (s .place) (s .inside) };
       place = rw (oneToOne us .placed (s .place) (s .inside), size-dropped us d l);
     }
@@ -43,7 +43,7 @@ module _ {axes : List ℕ} {d : ℕ} {v₀ v : List ℕ} {i : ℕ} (f : Carried 
   us = take d axes
 
   -- the place is the one that the caller means
-  meant : (p : ℕ) → p + 1 < size us → v₀ ≡ padded (vectorAt us p) → f .first .place ≡ p
+  meant : (p : ℕ) → p + 1 < size us → v₀ ≡ padded (digitsAt us p) → f .first .place ≡ p
   meant p h s = same-place us (f .first .place) p (f .first .inside) (omega arith) (sym (f .first .shape) ∙ s)
 
   module _ (t : 0 < i) where
@@ -85,13 +85,13 @@ module _ {axes : List ℕ} {d : ℕ} {v₀ v : List ℕ} {i : ℕ} (f : Carried 
               (omega (arith, ap (λ k. k * size (drop i us)) n, weighed 0, f .place));
         }
 
-    up : w + 1 < u → (p : ℕ) → p + 1 < size us → v₀ ≡ padded (vectorAt us p) → set v (i - 1) (w + 1) ≡ padded (vectorAt us (p + 1))
+    up : w + 1 < u → (p : ℕ) → p + 1 < size us → v₀ ≡ padded (digitsAt us p) → set v (i - 1) (w + 1) ≡ padded (digitsAt us (p + 1))
     up l p h s =
         placed (written (f .digits) (i - 1) (w + 1) inside (omega (arith, axis))) (p + 1)
         (omega (arith, weighed (w + 1), f .place, meant p h s))
 
 -- past the first input there is no next vector
-wrapped : (axes : List ℕ) (d : ℕ) (v₀ v : List ℕ) (p : ℕ) → Carried axes d v₀ v 0 → p + 1 < size (take d axes) → ¬ (v₀ ≡ padded (vectorAt (take d axes) p))
+wrapped : (axes : List ℕ) (d : ℕ) (v₀ v : List ℕ) (p : ℕ) → Carried axes d v₀ v 0 → p + 1 < size (take d axes) → ¬ (v₀ ≡ padded (digitsAt (take d axes) p))
 wrapped axes d v₀ v p f h s = omega (arith, f .place, meant f p h s)
 
 abbrev Inv-loop : tie.InvT-loop

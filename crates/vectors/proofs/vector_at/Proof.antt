@@ -9,7 +9,7 @@ use native.Mathlib.Omega.{arith}
 use borrow.Author.Needs.{needs}
 use lib.ListN.{length, getD, take, drop, set, replicate, getD-replicate}
 use lib.Seq.{getD-set-other, length-take-le, getD-take}
-use Rattle.places.specs.Places.{size, vectorAt, placeOf}
+use Rattle.places.specs.Places.{size, digitsAt, placeOf}
 use Rattle.places.proofs.Places.{oneToOne}
 use Rattle.sizes.specs.Sizes.{maxInputs}
 use Rattle.vectors.proofs.Digits.{Digits, digit-most, place-set, placed, size-drop, size-dropped, written, zeros}
@@ -27,7 +27,7 @@ record Decoded (axes : List ℕ) (d p : ℕ) (v : List ℕ) (rest i : ℕ) : Typ
 start : (axes : List ℕ) (d p : ℕ) → d ≤ maxInputs → length (take d axes) ≡ d → p < size (take d axes) → Decoded axes d p (replicate maxInputs 0) p d
 start axes d p m l h =
     let us = take d axes in
-    let z = zeros us (vectorAt us p) d l m (oneToOne us .below p h) in
+    let z = zeros us (digitsAt us p) d l m (oneToOne us .below p h) in
     record {
       within = omega arith;
       long = l;

@@ -14,7 +14,7 @@ use Rattle.batches.proofs.OnGrid.{place-on-grid}
 use Rattle.evaluate.specs.Evaluate.{outputOf}
 use Rattle.evaluate.specs.Run.{Ready}
 use Rattle.lanes.specs.Lanes.{VectorOnGrid}
-use Rattle.places.specs.Places.{size, vectorAt}
+use Rattle.places.specs.Places.{size, digitsAt}
 use Rattle.plan.specs.Comparison.{outputsDiffer}
 use Rattle.plan.specs.declared.Plan.{Plan}
 use Rattle.plan.specs.declared.Span.{Span}
@@ -36,7 +36,7 @@ record Passed (s₁ s₂ : List ℕ) (g : Plan) (h : Span) (scratch₀ scratch v
   kept : drop (max (g .n1) (g .n2)) scratch ≡ drop (max (g .n1) (g .n2)) scratch₀
   within : p ≤ h .end
   full : length v ≡ maxInputs
-  vector : p < h .end → v ≡ padded (vectorAt (take (g .d) (g .axes)) p)
+  vector : p < h .end → v ≡ padded (digitsAt (take (g .d) (g .axes)) p)
   same : first (outputsDiffer s₁ s₂) (h .from) (h .end - h .from) ≡ first (outputsDiffer s₁ s₂) p (h .end - p)
 
 module _
@@ -76,7 +76,7 @@ module _
       -- b is the outcome of the test at this place
       module _ (b : Bool) (tested : b ≡ not (eqb (outputOf s₁ v) (outputOf s₂ v))) where
         test : b ≡ outputsDiffer s₁ s₂ p
-        test = tested ∙ test-padded s₁ s₂ v p (k .span .planned .files .same) (k .vector t ∙ ap (λ us. padded (vectorAt us p)) (plan.grid (k .span .planned)))
+        test = tested ∙ test-padded s₁ s₂ v p (k .span .planned .files .same) (k .vector t ∙ ap (λ us. padded (digitsAt us p)) (plan.grid (k .span .planned)))
 
         found : b ≡ true → p ≡ first (outputsDiffer s₁ s₂) (r .from) (r .end - r .from)
         found e = sym (k .same ∙ first-here (outputsDiffer s₁ s₂) p (r .end - p) (sym test ∙ e))
@@ -84,7 +84,7 @@ module _
         more :
             (scratch' v' : List ℕ) → b ≡ false → length scratch' ≡ length scratch → drop (max (g .n1) (g .n2)) scratch' ≡ drop (max (g .n1) (g .n2)) scratch →
             length v' ≡ maxInputs →
-            ((q : ℕ) → q + 1 < size (take (g .d) (g .axes)) → v ≡ padded (vectorAt (take (g .d) (g .axes)) q) → v' ≡ padded (vectorAt (take (g .d) (g .axes)) (q + 1))) →
+            ((q : ℕ) → q + 1 < size (take (g .d) (g .axes)) → v ≡ padded (digitsAt (take (g .d) (g .axes)) q) → v' ≡ padded (digitsAt (take (g .d) (g .axes)) (q + 1))) →
             Passed s₁ s₂ g r scratch₀ scratch' v' (p + 1)
         more scratch' v' e l q w step =
             record {

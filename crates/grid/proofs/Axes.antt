@@ -8,36 +8,37 @@ use lib.ListN.{length, getD}
 use Rattle.bound.specs.Axes.{axis, axes}
 use Rattle.bound.specs.Bound.{bound, maxBound}
 use Rattle.bound.proofs.Table.{bound-least, bound-most}
+use Rattle.formats.specs.declared.Format.{Format}
 use Rattle.places.specs.Places.{size}
 use Rattle.sizes.specs.Sizes.{maxInputs}
 
 module _ (m : ℕ) (low : 1 ≤ m) (high : m ≤ 64) where
-  pub axis-most : (n : ℕ) → axis m n ≤ maxBound
+  pub axis-most : (f : Format) → axis m f ≤ maxBound
   unfolding axis
-  axis-most n = le-trans (min-le-right (2 ^ n) (bound m)) (bound-most m low high)
+  axis-most f = le-trans (min-le-right (2 ^ f .length) (bound m)) (bound-most m low high)
 
   -- so no axis of a grid is
-  pub axes-most : (ns : List ℕ) (i : ℕ) → getD (axes m ns) i 0 ≤ maxBound
+  pub axes-most : (fs : List Format) (i : ℕ) → getD (axes m fs) i 0 ≤ maxBound
   axes-most [] i = omega arith
-  axes-most (n ∷ ns) zero = axis-most n
-  axes-most (n ∷ ns) (suc i) = axes-most ns i
+  axes-most (f ∷ fs) zero = axis-most f
+  axes-most (f ∷ fs) (suc i) = axes-most fs i
 
-  axis-least : (n : ℕ) → 1 ≤ axis m n
+  axis-least : (f : Format) → 1 ≤ axis m f
   unfolding axis
-  axis-least n = le-min (one-le-pow n 2 (lit< tt)) (bound-least m low high)
+  axis-least f = le-min (one-le-pow (f .length) 2 (lit< tt)) (bound-least m low high)
 
   -- the grid has a vector
-  pub size-least : (ns : List ℕ) → 1 ≤ size (axes m ns)
+  pub size-least : (fs : List Format) → 1 ≤ size (axes m fs)
   unfolding size
   size-least [] = lit≤ tt
-  size-least (n ∷ ns) = one-le-mul (axis-least n) (size-least ns)
+  size-least (f ∷ fs) = one-le-mul (axis-least f) (size-least fs)
 
-  pub size-most : (ns : List ℕ) → size (axes m ns) ≤ maxBound ^ length ns
+  pub size-most : (fs : List Format) → size (axes m fs) ≤ maxBound ^ length fs
   unfolding size
   size-most [] = lit≤ tt
-  size-most (n ∷ ns) = rw (pow-succ' maxBound (length ns)) (mul-le-mul (axis-most n) (size-most ns))
+  size-most (f ∷ fs) = rw (pow-succ' maxBound (length fs)) (mul-le-mul (axis-most f) (size-most fs))
 
 -- as many axes as a file may have inputs give fewer than 2^64 vectors
-pub size-fits : (m : ℕ) → 1 ≤ m → m ≤ 64 → (ns : List ℕ) → length ns ≤ maxInputs → size (axes m ns) < 2 ^ 64
-size-fits m low high ns h =
-    le-trans (omega (arith, le-trans (size-most m low high ns) (pow-le-pow-right (lit< tt) h))) (le-refl (2 ^ 64))
+pub size-fits : (m : ℕ) → 1 ≤ m → m ≤ 64 → (fs : List Format) → length fs ≤ maxInputs → size (axes m fs) < 2 ^ 64
+size-fits m low high fs h =
+    le-trans (omega (arith, le-trans (size-most m low high fs) (pow-le-pow-right (lit< tt) h))) (le-refl (2 ^ 64))

@@ -7,17 +7,22 @@ use lib.Dec.{lit<, lit≤}
 use lib.ListN.{length, take, length-map, length-take}
 use lib.Seq.{take-at, length-take-le}
 use Rattle.bound.specs.Bound.{maxBound}
-use Rattle.sizes.specs.Sizes.{maxInputs, Sound}
+use Rattle.sizes.specs.Sizes.{maxInputs, formatsOf, Sound}
 use Rattle.sizes.specs.declared.Sizes.{Sizes}
 use Rattle.sizes.proofs.Ruled.{ruled-sound}
-use Rattle.grid.specs.Grid.{axesOf, gridSize, gridOf, widthsOf, GridFits}
+use Rattle.grid.specs.Grid.{axesOf, lowsOf, gridSize, gridOf, GridFits}
 use Rattle.grid.specs.declared.Grid.{Grid}
 use Rattle.grid.proofs.Axes.{size-least, size-most, size-fits}
 
 -- there is an axis for each input
 pub length-axes : (z : Sizes) → length (z .widths) ≡ maxInputs → z .d ≤ maxInputs → length (axesOf z) ≡ z .d
 unfolding axesOf
-length-axes z w h = rw length-map (length-take-le (z .d) (z .widths) (omega arith))
+length-axes z w h = rw (length-map, length-map) (length-take-le (z .d) (z .widths) (omega arith))
+
+-- and a lowest value
+pub length-lows : (z : Sizes) → length (lowsOf z) ≡ length (axesOf z)
+unfolding axesOf lowsOf
+length-lows z = simp length-map
 
 module _ (z : Sizes) (g : Grid) (e : g ≡ gridOf z) where
   pub grid-size : g .size ≡ gridSize z
@@ -35,17 +40,17 @@ length-axes-most z = simp (length-map, length-take) (omega arith)
 module _ (z : Sizes) (s : Sound z) where
   pub grid-least : 1 ≤ gridSize z
   unfolding gridSize axesOf
-  grid-least = size-least (z .m) (s .0 .0) (s .0 .1) (widthsOf z)
+  grid-least = size-least (z .m) (s .0 .0) (s .0 .1) (formatsOf z)
 
   grid-most : gridSize z ≤ maxBound ^ z .d
   unfolding gridSize axesOf
   grid-most =
-      le-trans (size-most (z .m) (s .0 .0) (s .0 .1) (widthsOf z))
-      (pow-le-pow-right (lit< tt) (rw length-take (omega arith)))
+      le-trans (size-most (z .m) (s .0 .0) (s .0 .1) (formatsOf z))
+      (pow-le-pow-right (lit< tt) (rw (length-map, length-take) (omega arith)))
 
   pub grid-fits : gridSize z < 2 ^ 64
   unfolding gridSize axesOf
-  grid-fits = size-fits (z .m) (s .0 .0) (s .0 .1) (widthsOf z) (rw length-take (omega (arith, s .1)))
+  grid-fits = size-fits (z .m) (s .0 .0) (s .0 .1) (formatsOf z) (rw (length-map, length-take) (omega (arith, s .1)))
 
 pub gridFits : GridFits
 gridFits =

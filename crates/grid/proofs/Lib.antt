@@ -1,2 +1,3 @@
 pub mod Axes
+pub mod Filled
 pub mod Grids

@@ -1,7 +1,8 @@
 -- The grid of given sizes (document 01, 'Output, grid and order').
---   widthsOf z    the word lengths of the d inputs
 --   axesOf z      u_1 to u_d
+--   lowsOf z      the lowest values of the d inputs
 --   gridSize z    G, the product of the axes
+--   gridVector z p   the vector at place p: of each input one of the u values from its lowest up, in dictionary order
 --   gridOf z      the axes, with 0 past the last input, and G
 --   GridFits      of sizes that 2, 3 and 5 accept, the grid has a vector and G fits 64 bits. Proved in proofs/Grids:
 --     least       G is 1 or more
@@ -11,23 +12,27 @@
 --     no-wider    and no longer with one input more
 use mathlib.Core.List.{List}
 use Prim.Native.Nat.{ℕ, _+_, _^_, _≤_, _<_}
-use lib.ListN.{take}
-use Rattle.bound.specs.Axes.{axes}
+use lib.IntN.{ℤ}
+use Rattle.bound.specs.Axes.{lows, axes}
 use Rattle.bound.specs.Bound.{maxBound}
 use Rattle.places.specs.Places.{size}
+use Rattle.places.specs.Vectors.{vectorAt}
 use Rattle.sizes.specs.Padded.{padded}
-use Rattle.sizes.specs.Sizes.{maxInputs, Ruled}
+use Rattle.sizes.specs.Sizes.{maxInputs, formatsOf, Ruled}
 use Rattle.sizes.specs.declared.Sizes.{Sizes}
 use Rattle.grid.specs.declared.Grid.{Grid}
 
-abbrev pub widthsOf : Sizes → List ℕ
-widthsOf z = take (z .d) (z .widths)
-
 unfoldable pub axesOf : Sizes → List ℕ
-axesOf z = axes (z .m) (widthsOf z)
+axesOf z = axes (z .m) (formatsOf z)
+
+unfoldable pub lowsOf : Sizes → List ℤ
+lowsOf z = lows (formatsOf z)
 
 unfoldable pub gridSize : Sizes → ℕ
 gridSize z = size (axesOf z)
+
+unfoldable pub gridVector : Sizes → ℕ → List ℤ
+gridVector z p = vectorAt (lowsOf z) (axesOf z) p
 
 unfoldable pub gridOf : Sizes → Grid
 gridOf z = record { axes = padded (axesOf z); size = gridSize z }

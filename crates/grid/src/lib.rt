@@ -1,10 +1,10 @@
 // The grid of given sizes: its axes and its size.
 use bound::bound;
+use formats::format_of;
 use sizes::INPUTS;
 use sizes::Sizes;
 ghost use mathlib.Core.Path.{_≡_};
-ghost use Prim.Native.Nat.{min, _≤_};
-ghost use Rattle.bound.specs.Axes.{range};
+ghost use Prim.Native.Nat.{min, _^_, _≤_};
 ghost use Rattle.bound.specs.Bound.{maxBound};
 ghost use Rattle.sizes.specs.Sizes.{Sound};
 ghost use Rattle.grid.specs.Grid.{gridOf};
@@ -18,7 +18,7 @@ pub struct Grid {
 // The smaller of 2^n and a bound. From n = 7 on 2^n is above every bound.
 fn axis(most: u64, n: u64) -> u64
     requires { ⌜ most ≤ maxBound ⌝ }
-    ensures { λ r. ⌜ (r ≡ min (range n) most) × (r ≤ maxBound) ⌝ }
+    ensures { λ r. ⌜ (r ≡ min (2 ^ n) most) × (r ≤ maxBound) ⌝ }
 {
     if 7 <= n {
         return most;
@@ -41,7 +41,8 @@ pub fn grid_of(z: Sizes) -> Grid
     let mut size: u64 = 1;
     let mut i = 0;
     while i < d {
-        let u = axis(most, widths[i] as u64);
+        let format = format_of(widths[i]);
+        let u = axis(most, format.length);
         axes[i] = u;
         size = size * u;
         i += 1;

@@ -11,7 +11,7 @@ use Rattle.fields.specs.File.{sizesOf}
 use Rattle.grid.specs.Grid.{axesOf}
 use Rattle.grid.proofs.Grids.{length-axes-most}
 use Rattle.places.specs.Places.{digitsAt}
-use Rattle.places.proofs.Places.{length-vector}
+use Rattle.places.proofs.Places.{length-digits}
 use Rattle.ranges.proofs.Search.{true-or-false}
 use Rattle.sessions.specs.Session.{continueRefusal, refusedAnswer, plainAnswer, differsAnswer, progress, advanced, continued}
 use Rattle.sessions.specs.declared.Answer.{Answer}
@@ -92,7 +92,7 @@ progress-vector :
 unfolding differsAnswer plainAnswer
 progress-vector s₁ s₂ σ B G q high =
     progress-each (λ (c : Continued). WholeVector (c .answer)) s₁ s₂ σ B G q
-    (length-padded (digitsAt (axesOf (sizesOf s₁)) q) (omega (arith, length-vector (axesOf (sizesOf s₁)) q, length-axes-most (sizesOf s₁))))
+    (length-padded (digitsAt (axesOf (sizesOf s₁)) q) (omega (arith, length-digits (axesOf (sizesOf s₁)) q, length-axes-most (sizesOf s₁))))
     refl
     refl
 

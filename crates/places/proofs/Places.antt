@@ -19,10 +19,10 @@ unfolding size
 size-snoc [] u = omega arith
 size-snoc (w ∷ us) u = rw (size-snoc us u) (sym (mul-assoc w (size us) u))
 
-pub length-vector : (us : List ℕ) (p : ℕ) → length (digitsAt us p) ≡ length us
+pub length-digits : (us : List ℕ) (p : ℕ) → length (digitsAt us p) ≡ length us
 unfolding digitsAt
-length-vector [] p = refl
-length-vector (u ∷ us) p = ap suc (length-vector us _)
+length-digits [] p = refl
+length-digits (u ∷ us) p = ap suc (length-digits us _)
 
 below : (us : List ℕ) (p : ℕ) → p < size us → Below us (digitsAt us p)
 unfolding size digitsAt

@@ -9,7 +9,7 @@ use lib.ListN.{getD}
 use borrow.Author.Tests.{leb-true, lt-ltb, le-ltb, eqb-true, not-false}
 use Rattle.ranges.proofs.Search.{every-at}
 use Rattle.sizes.specs.declared.Sizes.{Sizes}
-use Rattle.sizes.specs.Sizes.{within, maxInputs, badOutput, badInputs, badWidths, widthRule, OutputRuled, InputsRuled, Sound}
+use Rattle.sizes.specs.Sizes.{within, maxInputs, formatAt, badOutput, badInputs, badWidths, widthRule, OutputRuled, InputsRuled, Sound}
 
 pub within-range : (low high n : ℕ) → within low high n ≡ true → (low ≤ n) × (n ≤ high)
 within-range low high n e =
@@ -28,8 +28,8 @@ module _ (z : Sizes) where
   pub sound : badOutput z ≡ false → badInputs z ≡ false → Sound z
   sound o i = (output-range o, inputs-range i .1)
 
-  -- the rule of word length i, by its place
-  pub rule-used : (i : ℕ) → i < z .d → widthRule z i ≡ within 1 64 (getD (z .widths) i 0)
+  -- the rule of width byte i, by its place
+  pub rule-used : (i : ℕ) → i < z .d → widthRule z i ≡ within 1 64 (formatAt z i .length)
   unfolding widthRule
   rule-used i l = simp (lt-ltb i (z .d) l)
 
@@ -41,8 +41,8 @@ module _ (z : Sizes) where
   unfolding badWidths
   rule-at e i l = every-at (widthRule z) 0 maxInputs i (not-false _ e) (omega arith) (omega arith)
 
-  pub width-used : badWidths z ≡ false → (i : ℕ) → i < z .d → i < maxInputs → (1 ≤ getD (z .widths) i 0) × (getD (z .widths) i 0 ≤ 64)
-  width-used e i l h = within-range 1 64 (getD (z .widths) i 0) (sym (rule-used i l) ∙ rule-at e i h)
+  pub width-used : badWidths z ≡ false → (i : ℕ) → i < z .d → i < maxInputs → (1 ≤ formatAt z i .length) × (formatAt z i .length ≤ 64)
+  width-used e i l h = within-range 1 64 (formatAt z i .length) (sym (rule-used i l) ∙ rule-at e i h)
 
   pub width-unused : badWidths z ≡ false → (i : ℕ) → z .d ≤ i → i < maxInputs → getD (z .widths) i 0 ≡ 0
   width-unused e i l h = eqb-true _ 0 (sym (rule-unused i l) ∙ rule-at e i h)

@@ -8,7 +8,7 @@ use native.Mathlib.Omega.{arith}
 use lib.ListN.{getD}
 use borrow.Author.Tests.{le-leb, eq-eqb}
 use Rattle.ranges.proofs.Search.{every-of}
-use Rattle.sizes.specs.Sizes.{within, maxInputs, badOutput, badInputs, badWidths, widthRule, OutputRuled, InputsRuled, Ruled, RuledExactly, Sound}
+use Rattle.sizes.specs.Sizes.{within, maxInputs, formatAt, badOutput, badInputs, badWidths, widthRule, OutputRuled, InputsRuled, Ruled, RuledExactly, Sound}
 use Rattle.sizes.specs.declared.Sizes.{Sizes}
 use Rattle.sizes.proofs.Ranges.{output-range, inputs-range, rule-used, rule-unused, width-used, width-unused}
 
@@ -51,7 +51,7 @@ module _ (z : Sizes) where
     width-passes : (i : ℕ) → i < maxInputs → widthRule z i ≡ true
     width-passes i h =
         elim (decLt i (z .d)) [
-          | yes l ↦ rule-used z i l ∙ range-within 1 64 (getD (z .widths) i 0) (r .widthLow i l) (r .widthHigh i l)
+          | yes l ↦ rule-used z i l ∙ range-within 1 64 (formatAt z i .length) (r .widthLow i l) (r .widthHigh i l)
           | no n ↦ rule-unused z i (omega arith) ∙ eq-eqb (getD (z .widths) i 0) 0 (r .widthUnused i (omega arith) h)
         ]
 

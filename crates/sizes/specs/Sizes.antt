@@ -3,25 +3,30 @@
 --   badOutput    2. m is not 1 to 64
 --   inputCount d     what 3 asks: d is 1 to maxInputs
 --   badInputs    3. d is not 1 to maxInputs
---   badWidths    5. a word-length byte breaks its rule: 1 to 64 for the first d, and 0 for the others
+--   formatAt z i  the format of input i: what its width byte gives
+--   formatsOf z  the formats of the d inputs
+--   badWidths    5. a width byte breaks its rule: a word length of 1 to 64 for the first d, signed or not, and 0 for the others, the whole byte
 --   refusedBy k  the refusal under the number k that shows no file and no step
 --   accepted     acceptance: number 0
 --   accepts r    the call that answers r is accepted
 --   isRefusal r  and that it is refused
 --   sizesRefusal z  what sizes given as numbers are refused by, or acceptance: 2, 3, 5
---   maxInputs    the largest count of inputs, and so of word lengths
+--   maxInputs    the largest count of inputs, and so of width bytes
 --   OutputLength m  what 2 asks, with no test in it
 --   OutputRuled z   2 with no test in it: m is 1 to 64
 --   InputsRuled z   3 with no test in it: d is 1 to maxInputs
---   Ruled z      2, 3 and 5 with no test in them: m is 1 to 64, d is 1 to maxInputs, and each word length keeps its rule
+--   Ruled z      2, 3 and 5 with no test in them: m is 1 to 64, d is 1 to maxInputs, and each width byte keeps its rule
 --   RuledExactly sizes pass the tests 2, 3 and 5 exactly there. Proved in proofs/Ruled
 --   Sound z      m is 1 to 64, and d is at most maxInputs: what a grid asks
 use mathlib.Core.Bool.{Bool, false, not, cond, _&&_}
+use mathlib.Core.List.{List, map}
 use mathlib.Core.Logic.{_↔_}
 use mathlib.Core.Path.{_≡_}
 use Prim.Native.Nat.{ℕ, _≤_, _<_}
 use lib.Dec.{leb, ltb, eqb}
-use lib.ListN.{getD}
+use lib.ListN.{getD, take}
+use Rattle.formats.specs.Bytes.{formatOf}
+use Rattle.formats.specs.declared.Format.{Format}
 use Rattle.ranges.specs.Search.{every}
 use Rattle.sizes.specs.declared.Refusal.{Refusal}
 use Rattle.sizes.specs.declared.Sizes.{Sizes}
@@ -45,9 +50,15 @@ badOutput z = not (outputLength (z .m))
 unfoldable pub badInputs : Sizes → Bool
 badInputs z = not (inputCount (z .d))
 
--- word length i keeps its rule
+abbrev pub formatAt : Sizes → ℕ → Format
+formatAt z i = formatOf (getD (z .widths) i 0)
+
+abbrev pub formatsOf : Sizes → List Format
+formatsOf z = map formatOf (take (z .d) (z .widths))
+
+-- width byte i keeps its rule
 unfoldable pub widthRule : Sizes → ℕ → Bool
-widthRule z i = cond (ltb i (z .d)) (within 1 64 (getD (z .widths) i 0)) (eqb (getD (z .widths) i 0) 0)
+widthRule z i = cond (ltb i (z .d)) (within 1 64 (formatAt z i .length)) (eqb (getD (z .widths) i 0) 0)
 
 unfoldable pub badWidths : Sizes → Bool
 badWidths z = not (every (widthRule z) 0 maxInputs)
@@ -66,8 +77,8 @@ pub record Ruled (z : Sizes) : Type 0 where
   pub outputHigh : z .m ≤ 64
   pub inputsLow : 1 ≤ z .d
   pub inputsHigh : z .d ≤ maxInputs
-  pub widthLow : (i : ℕ) → i < z .d → 1 ≤ getD (z .widths) i 0
-  pub widthHigh : (i : ℕ) → i < z .d → getD (z .widths) i 0 ≤ 64
+  pub widthLow : (i : ℕ) → i < z .d → 1 ≤ formatAt z i .length
+  pub widthHigh : (i : ℕ) → i < z .d → formatAt z i .length ≤ 64
   pub widthUnused : (i : ℕ) → z .d ≤ i → i < maxInputs → getD (z .widths) i 0 ≡ 0
 
 abbrev pub RuledExactly : Type 0

@@ -1,4 +1,5 @@
 // The sizes of a datapath, and the refusal that every call can answer.
+use formats::format_of;
 ghost use mathlib.Core.Path.{_≡_};
 ghost use Prim.Native.Nat.{_<_};
 ghost use Rattle.sizes.specs.Sizes.{
@@ -17,7 +18,7 @@ ghost use Rattle.sizes.specs.Sizes.{
 // The largest count of inputs.
 pub const INPUTS: usize = 10;
 
-// m, the output word length; d, the count of inputs; and the word lengths of the inputs, with 0 past the last.
+// m, the output word length; d, the count of inputs; and the width bytes of the inputs, with 0 past the last.
 pub struct Sizes {
     pub m: u8,
     pub d: u8,
@@ -82,7 +83,7 @@ fn bad_inputs(z: Sizes) -> bool
     !is_input_count(d)
 }
 
-// Whether word length i keeps its rule: 1 to 64 for one of the first d, else 0.
+// Whether width byte i keeps its rule: a word length of 1 to 64 for one of the first d, signed or not, else the byte 0.
 fn width_rule(z: Sizes, i: usize) -> bool
     requires { ⌜ i < maxInputs ⌝ }
     ensures { λ r. ⌜ r ≡ widthRule z i ⌝ }
@@ -93,10 +94,11 @@ fn width_rule(z: Sizes, i: usize) -> bool
     if d <= i {
         return width == 0;
     }
-    within(1, 64, width as u64)
+    let format = format_of(width);
+    within(1, 64, format.length)
 }
 
-// Whether a word length breaks condition 5: 1 to 64 for the first d, 0 for the others.
+// Whether a width byte breaks condition 5: a word length of 1 to 64 for the first d, 0 for the others.
 pub fn bad_widths(z: Sizes) -> bool
     ensures { λ r. ⌜ r ≡ badWidths z ⌝ }
 {

@@ -1,16 +1,45 @@
--- A vector as the machine holds it: one value for each of the inputs that a file may have.
---   Placed us v   v holds one of the vectors below the axes us
---   Next us v r   where v holds the vector at a place that is not the last, r holds the one at the next place
+-- A vector as the machine holds it: one word for each of the inputs that a file may have. Of each input the grid has consecutive values from its
+-- lowest up, and lows are the words of these lowest values, 0 past the last input.
+--   lowWords z              the words of the lowest values of the inputs of the sizes z
+--   raised lows ts          the words that stand the counts ts above the words lows, modulo 2^64
+--   heldAt lows us p        the vector at place p of the grid with the axes us, as words: the digits of p above the lowest values
+--   HoldsVector lows us p r what finding a vector promises:
+--       words               r holds that vector
+--       integers            whatever the lowest values with these words are, r holds the words of the integers at place p, and 0 past the last
+--   Placed lows us v        v holds one of the vectors of the grid
+--   Next lows us v r        where v holds the vector at a place that is not the last, r holds the one at the next place
 use mathlib.Core.Path.{_≡_}
-use mathlib.Core.List.{List}
-use Prim.Native.Nat.{ℕ, _+_, _<_}
+use mathlib.Core.List.{List, [], _∷_, map}
+use Prim.Native.Nat.{ℕ, _+_, _%_, _^_, _<_}
+use lib.IntN.{ℤ}
+use lib.ListN.{length}
+use Rattle.grid.specs.Grid.{lowsOf}
 use Rattle.places.specs.Places.{size, digitsAt}
+use Rattle.places.specs.Vectors.{vectorAt}
 use Rattle.sizes.specs.Padded.{padded}
+use Rattle.sizes.specs.declared.Sizes.{Sizes}
+use Rattle.words.specs.Words.{word}
 
-pub record Placed (us v : List ℕ) : Type 0 where
+unfoldable pub lowWords : Sizes → List ℕ
+lowWords z = map word (lowsOf z)
+
+unfoldable pub raised : List ℕ → List ℕ → List ℕ
+raised [] ts = []
+raised (f ∷ fs) [] = []
+raised (f ∷ fs) (t ∷ ts) = (f + t) % 2 ^ 64 ∷ raised fs ts
+
+unfoldable pub heldAt : List ℕ → List ℕ → ℕ → List ℕ
+heldAt lows us p = raised lows (padded (digitsAt us p))
+
+pub record HoldsVector (lows us : List ℕ) (p : ℕ) (r : List ℕ) : Type 0 where
+  pub words : r ≡ heldAt lows us p
+  pub integers :
+      (los : List ℤ) → length los ≡ length us → lows ≡ padded (map word los) → r ≡ padded (map word (vectorAt los us p))
+
+pub record Placed (lows us v : List ℕ) : Type 0 where
   pub place : ℕ
   pub inside : place < size us
-  pub shape : v ≡ padded (digitsAt us place)
+  pub shape : v ≡ heldAt lows us place
 
-abbrev pub Next : List ℕ → List ℕ → List ℕ → Type 0
-Next us v r = (p : ℕ) → p + 1 < size us → v ≡ padded (digitsAt us p) → r ≡ padded (digitsAt us (p + 1))
+abbrev pub Next : List ℕ → List ℕ → List ℕ → List ℕ → Type 0
+Next lows us v r = (p : ℕ) → p + 1 < size us → v ≡ heldAt lows us p → r ≡ heldAt lows us (p + 1)

@@ -1,59 +1,60 @@
-// The vectors of a grid, as the machine holds them: the one at a place, and the one after another.
+// The vectors of a grid, as the machine holds them: the one at a place, and the one after another. Of each input the
+// grid has consecutive values from its lowest up, as many as its axis; the words of the lowest values are given as lows.
 use sizes::INPUTS;
-ghost use mathlib.Core.Path.{_≡_};
 ghost use Prim.Native.Nat.{_≤_, _<_};
 ghost use lib.ListN.{length, take};
-ghost use Rattle.places.specs.Places.{size, digitsAt};
+ghost use Rattle.places.specs.Places.{size};
 ghost use Rattle.sizes.specs.Sizes.{maxInputs};
-ghost use Rattle.sizes.specs.Padded.{padded};
-ghost use Rattle.vectors.specs.Vectors.{Placed, Next};
+ghost use Rattle.vectors.specs.Vectors.{HoldsVector, Placed, Next};
 
-// The vector at place p of the grid with the first d of the axes: the digits of p, the last input varying fastest.
-pub fn vector_at(axes: [u64; INPUTS], d: usize, p: u64) -> [u64; INPUTS]
+// The vector at place p of the grid with the first d of the axes: the digits of p above the lowest values, the last
+// input varying fastest. The entries past d are those of lows.
+pub fn vector_at(axes: [u64; INPUTS], lows: [u64; INPUTS], d: usize, p: u64) -> [u64; INPUTS]
     requires { ⌜ d ≤ maxInputs ⌝ }
     requires { ⌜ p < size (take d axes) ⌝ }
-    ensures { λ r. ⌜ r ≡ padded (digitsAt (take d axes) p) ⌝ }
+    ensures { λ r. ⌜ HoldsVector lows (take d axes) p r ⌝ }
 {
-    let mut v = [0u64; INPUTS];
+    let mut v = lows;
     let mut rest = p;
     let mut i = d;
     while 0 < i {
         i -= 1;
         let u = axes[i];
-        v[i] = rest % u;
+        v[i] = std::num::wrapping_add_u64(lows[i], rest % u);
         rest = rest / u;
     }
     v
 }
 
 // v, one of the grid's vectors, becomes the one at the next place: from the last input backwards, an input at its last
-// value goes to 0, and the first that isn't goes up by 1. Where v is the last vector of all, nothing is promised of what
-// it becomes.
-pub fn advance(axes: [u64; INPUTS], d: usize, v: &mut [u64])
+// value goes to its lowest, and the first that isn't goes up by 1. Where v is the last vector of all, nothing is
+// promised of what it becomes.
+pub fn advance(axes: [u64; INPUTS], lows: [u64; INPUTS], d: usize, v: &mut [u64])
     requires { ⌜ (d ≤ maxInputs) × (d ≤ length (now v)) ⌝ }
-    requires { ⌜ Placed (take d axes) (now v) ⌝ }
-    ensures { λ _. ⌜ Next (take d axes) (now (v .entry)) (now (v .exit)) ⌝ }
+    requires { ⌜ Placed lows (take d axes) (now v) ⌝ }
+    ensures { λ _. ⌜ Next lows (take d axes) (now (v .entry)) (now (v .exit)) ⌝ }
 {
     let mut i = d;
     while 0 < i {
         i -= 1;
-        let x = v[i] + 1;
-        if x < axes[i] {
+        let low = lows[i];
+        let x = std::num::wrapping_add_u64(v[i], 1);
+        if std::num::wrapping_sub_u64(x, low) < axes[i] {
             v[i] = x;
             return;
         }
-        v[i] = 0;
+        v[i] = low;
     }
 }
 
 // The vector one place after v, one of the grid's vectors. Where v is the last vector of all, nothing is promised of
 // the answer.
-pub fn next_vector(axes: [u64; INPUTS], d: usize, v: [u64; INPUTS]) -> [u64; INPUTS]
+pub fn next_vector(axes: [u64; INPUTS], lows: [u64; INPUTS], d: usize, v: [u64; INPUTS]) -> [u64; INPUTS]
     requires { ⌜ d ≤ maxInputs ⌝ }
-    requires { ⌜ Placed (take d axes) v ⌝ }
-    ensures { λ r. ⌜ Next (take d axes) v r ⌝ }
+    requires { ⌜ Placed lows (take d axes) v ⌝ }
+    ensures { λ r. ⌜ Next lows (take d axes) v r ⌝ }
 {
     let mut next = v;
-    advance(axes, d, &mut next);
+    advance(axes, lows, d, &mut next);
     next
 }

@@ -16,11 +16,11 @@ pub fn wrapping_mul(a: u64, b: u64) -> u64
     std::num::wrapping_add_u64(cross << 32, a0 * b0)
 }
 
-// x modulo 2^m: the lowest m bits. All of x where m is 64 or more.
+// x modulo 2^m: the lowest m bits, by a mask. All of x where m is 64 or more.
 pub fn cut(x: u64, m: u64) -> u64
     ensures { λ r. ⌜ r ≡ x % 2 ^ m ⌝ }
 {
-    if m < 64 { x % (1 << m) } else { x }
+    if m < 64 { x & ((1 << m) - 1) } else { x }
 }
 
 // The two bytes of s from i on as a number, the first byte weighing least.

@@ -1,57 +1,77 @@
 -- `vectors::advance` meets its contract. The loop's invariant: the entries from i on went to 0 from their last values, and the place is
 -- one block of the size of the axes from i on short of the next.
 -- Assumes nothing.
-use mathlib.Core.Path.{_≡_, refl, sym, _∙_, ap}
+use mathlib.Core.Path.{_≡_, refl, sym, _∙_, ap, subst}
 use mathlib.Core.List.{List}
-use Prim.Native.Nat.{ℕ, suc, _+_, _*_, _-_, _≤_, _<_}
+use Prim.Native.Nat.{ℕ, suc, _+_, _*_, _-_, _%_, _^_, _≤_, _<_}
+use native.Mathlib.Decide.{decLt}
 use native.Mathlib.Omega.{arith}
-use lib.ListN.{length, getD, take, drop, set, length-set}
+use lib.ListN.{length, getD, take, drop, set, length-set, length-take, List·getD-eq-default}
+use lib.Pow.{pow-pos}
 use lib.Seq.{length-take-le, getD-take}
 use Rattle.places.specs.Places.{size, digitsAt, placeOf}
 use Rattle.places.proofs.Places.{oneToOne}
-use Rattle.sizes.specs.Padded.{padded}
-use Rattle.vectors.specs.Vectors.{Placed}
-use Rattle.vectors.proofs.Digits.{Digits, digit, digit-most, place-set, placed, same-place, size-drop, size-dropped, written}
+use Rattle.vectors.specs.Vectors.{heldAt, Placed}
+use Rattle.vectors.proofs.Digits.{Lows, Digits, digit, digit-most, place-set, placed, same-place, size-drop, size-dropped, written}
 use borrow.Author.Needs.{needs}
 use mir.Syntax.{w64}
 use mir.Val.{Fits}
 use Rattle.vectors.proofs.advance.Statement.{statement}
 use Rattle.vectors.proofs.advance.Tie as tie
 
-record Carried (axes : List ℕ) (d : ℕ) (v₀ v : List ℕ) (i : ℕ) : Type 0 where
+take-small : (l : List ℕ) (n : ℕ) → ((j : ℕ) → getD l j 0 < 2 ^ 64) → (j : ℕ) → getD (take n l) j 0 < 2 ^ 64
+take-small l n h j =
+    elim (decLt j n) [
+      | yes k ↦ rw (getD-take n l j 0 k) (h j)
+      | no k ↦ rw (List·getD-eq-default (take n l) 0 {n = j} (rw length-take (omega arith))) (pow-pos 64)
+    ]
+
+record Carried (axes lows : List ℕ) (d : ℕ) (v₀ v : List ℕ) (i : ℕ) : Type 0 where
   within : i ≤ d
   long : length (take d axes) ≡ d
-  first : Placed (take d axes) v₀
+  known : Lows lows (take d axes)
+  most : (j : ℕ) → getD (take d axes) j 0 < 2 ^ 64
+  first : Placed lows (take d axes) v₀
   vector : List ℕ
-  digits : Digits (take d axes) v vector
+  digits : Digits lows (take d axes) v vector
   place : placeOf (take d axes) vector + size (drop i (take d axes)) ≡ first .place + 1
 
-start : (axes : List ℕ) (d : ℕ) (v : List ℕ) → length (take d axes) ≡ d → Placed (take d axes) v → Carried axes d v v d
-start axes d v l s =
+start :
+    (axes lows : List ℕ) (d : ℕ) (v : List ℕ) → length (take d axes) ≡ d → Lows lows (take d axes) → ((j : ℕ) → getD (take d axes) j 0 < 2 ^ 64) →
+    Placed lows (take d axes) v → Carried axes lows d v v d
+unfolding heldAt
+start axes lows d v l k m s =
     let us = take d axes in
     record {
       within = omega arith;
       long = l;
+      known = k;
+      most = m;
       first = s;
       vector = digitsAt us (s .place);
       digits = record { shape = s .shape; below = oneToOne us .below (s .place) (s .inside) };
       place = rw (oneToOne us .placed (s .place) (s .inside), size-dropped us d l);
     }
 
-module _ {axes : List ℕ} {d : ℕ} {v₀ v : List ℕ} {i : ℕ} (f : Carried axes d v₀ v i) where
+module _ {axes lows : List ℕ} {d : ℕ} {v₀ v : List ℕ} {i : ℕ} (f : Carried axes lows d v₀ v i) where
   abbrev us : List ℕ
   us = take d axes
 
   -- the place is the one that the caller means
-  meant : (p : ℕ) → p + 1 < size us → v₀ ≡ padded (digitsAt us p) → f .first .place ≡ p
-  meant p h s = same-place us (f .first .place) p (f .first .inside) (omega arith) (sym (f .first .shape) ∙ s)
+  meant : (p : ℕ) → p + 1 < size us → v₀ ≡ heldAt lows us p → f .first .place ≡ p
+  meant p h s =
+      same-place lows us (f .known) (λ j. omega (arith, f .most j)) (f .first .place) p (f .first .inside) (omega arith) (sym (f .first .shape) ∙ s)
 
-  module _ (t : 0 < i) where
+  module _ (some : 0 < i) where
     abbrev u : ℕ
     u = getD axes (i - 1) 0
 
-    abbrev w : ℕ
-    w = getD v (i - 1) 0
+    abbrev low : ℕ
+    low = getD lows (i - 1) 0
+
+    -- the count that the entry holds
+    abbrev t : ℕ
+    t = getD (f .vector) (i - 1) 0
 
     inside : i - 1 < length us
     inside = omega (arith, f .within, f .long)
@@ -59,66 +79,92 @@ module _ {axes : List ℕ} {d : ℕ} {v₀ v : List ℕ} {i : ℕ} (f : Carried 
     axis : getD us (i - 1) 0 ≡ u
     axis = getD-take d axes (i - 1) 0 (omega (arith, f .within))
 
-    entry : w ≡ getD (f .vector) (i - 1) 0
-    entry = digit (f .digits) (i - 1) inside
-
-    below : w < u
-    below = omega (arith, axis, entry, digit-most (f .digits) (i - 1) inside)
+    below : t < u
+    below = omega (arith, axis, digit-most (f .known) (f .digits) (i - 1) inside)
 
     next : suc (i - 1) ≡ i
     next = omega arith
 
-    weighed : (a : ℕ) → placeOf us (set (f .vector) (i - 1) a) + w * size (drop i us) ≡ placeOf us (f .vector) + a * size (drop i us)
-    weighed a = rw entry (rw next at (place-set us (f .vector) (i - 1) a (f .digits .below) inside))
+    -- the next word, and how far it stands above the lowest
+    module _ (x r : ℕ) (e : x ≡ (getD v (i - 1) 0 + 1) % 2 ^ 64) (small : r < 2 ^ 64) (q : (r + low) % 2 ^ 64 ≡ x) where
+      word : x ≡ (low + (t + 1)) % 2 ^ 64
+      word = omega (arith, e, digit (f .known) (f .digits) (i - 1) inside)
 
-    carry : u ≤ w + 1 → Carried axes d v₀ (set v (i - 1) 0) (i - 1)
+      count : r ≡ t + 1
+      count = omega (arith, word, small, q, f .known .words (i - 1), below, axis, f .most (i - 1))
+
+    weighed : (a : ℕ) → placeOf us (set (f .vector) (i - 1) a) + t * size (drop i us) ≡ placeOf us (f .vector) + a * size (drop i us)
+    weighed a = rw next at (place-set us (f .vector) (i - 1) a (f .digits .below) inside)
+
+    carry : u ≤ t + 1 → Carried axes lows d v₀ (set v (i - 1) low) (i - 1)
     carry l =
-        let n : u ≡ w + 1 = omega (arith, below) in
+        let n : u ≡ t + 1 = omega (arith, below) in
+        let back : low ≡ (low + 0) % 2 ^ 64 = omega (arith, f .known .words (i - 1)) in
         record {
           within = omega (arith, f .within);
           long = f .long;
+          known = f .known;
+          most = f .most;
           first = f .first;
           vector = set (f .vector) (i - 1) 0;
-          digits = written (f .digits) (i - 1) 0 inside (omega (arith, axis));
+          digits =
+              subst (λ a. Digits lows us (set v (i - 1) a) (set (f .vector) (i - 1) 0)) (sym back)
+              (written (f .known) (f .digits) (i - 1) 0 inside (omega (arith, axis, below)));
           place =
               rw (size-drop us (i - 1) inside, axis, next)
               (omega (arith, ap (λ k. k * size (drop i us)) n, weighed 0, f .place));
         }
 
-    up : w + 1 < u → (p : ℕ) → p + 1 < size us → v₀ ≡ padded (digitsAt us p) → set v (i - 1) (w + 1) ≡ padded (digitsAt us (p + 1))
+    up : t + 1 < u → (p : ℕ) → p + 1 < size us → v₀ ≡ heldAt lows us p → set v (i - 1) ((low + (t + 1)) % 2 ^ 64) ≡ heldAt lows us (p + 1)
     up l p h s =
-        placed (written (f .digits) (i - 1) (w + 1) inside (omega (arith, axis))) (p + 1)
-        (omega (arith, weighed (w + 1), f .place, meant p h s))
+        placed (f .known) (written (f .known) (f .digits) (i - 1) (t + 1) inside (omega (arith, axis))) (p + 1)
+        (omega (arith, weighed (t + 1), f .place, meant p h s))
 
 -- past the first input there is no next vector
-wrapped : (axes : List ℕ) (d : ℕ) (v₀ v : List ℕ) (p : ℕ) → Carried axes d v₀ v 0 → p + 1 < size (take d axes) → ¬ (v₀ ≡ padded (digitsAt (take d axes) p))
-wrapped axes d v₀ v p f h s = omega (arith, f .place, meant f p h s)
+wrapped :
+    (axes lows : List ℕ) (d : ℕ) (v₀ v : List ℕ) (p : ℕ) → Carried axes lows d v₀ v 0 → p + 1 < size (take d axes) → ¬ (v₀ ≡ heldAt lows (take d axes) p)
+wrapped axes lows d v₀ v p f h s = omega (arith, f .place, meant f p h s)
 
 abbrev Inv-loop : tie.InvT-loop
-Inv-loop d v₀ axes i₀ v i = (length v ≡ length v₀) × Carried axes d v₀ v i
+Inv-loop d v₀ axes lows i₀ v i = (length v ≡ length v₀) × Carried axes lows d v₀ v i
 
 abbrev μ-loop : tie.MeasureT-loop
-μ-loop d v₀ axes i₀ v i = i
+μ-loop d v₀ axes lows i₀ v i = i
 
 loop-holds : tie.Need-loop-holds Inv-loop μ-loop
-loop-holds c = (refl, start _ _ _ (length-take-le (c .args .d) (c .args .t1) (search needs)) (c .pre .1))
+loop-holds c =
+    let s = c .before in
+    let l = length-take-le (s .args .d) (s .args .t1) (search needs) in
+    let known : Lows (s .args .t2) (take (s .args .d) (s .args .t1)) = record {
+      each = search needs;
+      words = λ i. let f : Fits w64 (getD (s .args .t2) i 0) = search needs in f .fits;
+      few = omega (arith, l, s .pre .0);
+    } in
+    let most = take-small (s .args .t1) (s .args .d) (λ i. let f : Fits w64 (getD (s .args .t1) i 0) = search needs in f .fits) in
+    (refl, start _ _ _ _ l known most (s .pre .1))
 
 sub-i : tie.Need-sub-i Inv-loop μ-loop
 sub-i c = search needs
 
-mul-x : tie.Need-mul-x Inv-loop μ-loop
-mul-x c = omega (arith, c .before .loop .inv .1 .within, c .before .before .pre .0)
+mul-low : tie.Need-mul-low Inv-loop μ-loop
+mul-low c = search needs
 
-slice-read-x : tie.Need-slice-read-x Inv-loop μ-loop
-slice-read-x c =
-    let h = c .before .before in
-    omega (arith, h .loop .inv .0, h .loop .inv .1 .within, h .before .pre .0, c .before .loop-test .taken)
+array-read-low : tie.Need-array-read-low Inv-loop μ-loop
+array-read-low c = search needs
 
-add-x : tie.Need-add-x Inv-loop μ-loop
-add-x c =
+mul-wrapping-add-u64 : tie.Need-mul-wrapping-add-u64 Inv-loop μ-loop
+mul-wrapping-add-u64 c = omega (arith, c .before .loop .inv .1 .within, c .before .before .before .pre .0)
+
+slice-read-wrapping-add-u64 : tie.Need-slice-read-wrapping-add-u64 Inv-loop μ-loop
+slice-read-wrapping-add-u64 c =
     let h = c .before .before in
-    let most : Fits w64 (getD (h .before .args .t1) (h .loop .i - 1) 0) = search needs in
-    omega (arith, most .fits, below (h .loop .inv .1) (c .before .loop-test .taken))
+    omega (arith, h .loop .inv .0, h .loop .inv .1 .within, h .before .before .pre .0, c .before .loop-test .taken)
+
+wrapping-add-u64-requires : tie.Need-wrapping-add-u64-requires Inv-loop μ-loop
+wrapping-add-u64-requires c κs = search needs
+
+wrapping-sub-u64-requires : tie.Need-wrapping-sub-u64-requires Inv-loop μ-loop
+wrapping-sub-u64-requires c κs = search needs
 
 mul-if1 : tie.Need-mul-if1 Inv-loop μ-loop
 mul-if1 c = search needs
@@ -127,34 +173,45 @@ array-read-if1 : tie.Need-array-read-if1 Inv-loop μ-loop
 array-read-if1 c = search needs
 
 mul-v : tie.Need-mul-v Inv-loop μ-loop
-mul-v c = omega (arith, c .before .before .before .loop .inv .1 .within, c .before .before .before .before .pre .0)
+mul-v c = omega (arith, c .before .before .before .before .before .loop .inv .1 .within, c .before .before .before .before .before .before .before .pre .0)
 
 slice-write-v : tie.Need-slice-write-v Inv-loop μ-loop
 slice-write-v c =
-    let h = c .before .before .before in
-    omega (arith, h .loop .inv .0, h .loop .inv .1 .within, h .before .pre .0, c .before .before .loop-test .taken)
+    let h = c .before .before .before .before .before in
+    omega (arith, h .loop .inv .0, h .loop .inv .1 .within, h .before .before .pre .0, c .before .before .before .before .loop-test .taken)
 
 same-length : tie.Need-same-length Inv-loop μ-loop
 same-length c = search needs
 
 returns : tie.Need-returns Inv-loop μ-loop
-returns c = up (c .before .before .before .loop .inv .1) (c .before .before .loop-test .taken) (c .if1 .taken)
+returns c =
+    let h₀ = c .before .before .before .before .before in
+    let f = h₀ .loop .inv .1 in
+    let some = c .before .before .before .before .loop-test .taken in
+    let add = c .before .before .wrapping-add-u64 in
+    let less = c .before .wrapping-sub-u64 in
+    λ p h s.
+    ap (set (h₀ .loop .v) (h₀ .loop .i - 1)) (word f some _ _ (add .ensures) (less .ok) (less .ensures))
+    ∙ up f some (omega (arith, count f some _ _ (add .ensures) (less .ok) (less .ensures), c .if1 .taken)) p h s
 
 mul-v-2 : tie.Need-mul-v-2 Inv-loop μ-loop
-mul-v-2 c = omega (arith, c .before .before .before .loop .inv .1 .within, c .before .before .before .before .pre .0)
+mul-v-2 c = omega (arith, c .before .before .before .before .before .loop .inv .1 .within, c .before .before .before .before .before .before .before .pre .0)
 
 slice-write-v-2 : tie.Need-slice-write-v-2 Inv-loop μ-loop
 slice-write-v-2 c =
-    let h = c .before .before .before in
-    omega (arith, h .loop .inv .0, h .loop .inv .1 .within, h .before .pre .0, c .before .before .loop-test .taken)
+    let h = c .before .before .before .before .before in
+    omega (arith, h .loop .inv .0, h .loop .inv .1 .within, h .before .before .pre .0, c .before .before .before .before .loop-test .taken)
 
 loop-less : tie.Need-loop-less Inv-loop μ-loop
 loop-less c = search needs
 
 loop-again : tie.Need-loop-again Inv-loop μ-loop
 loop-again c =
-    let inv = c .before .before .before .loop .inv in
-    (rw length-set (inv .0), carry (inv .1) (c .before .before .loop-test .taken) (c .if1 .left))
+    let inv = c .before .before .before .before .before .loop .inv in
+    let some = c .before .before .before .before .loop-test .taken in
+    let add = c .before .before .wrapping-add-u64 in
+    let less = c .before .wrapping-sub-u64 in
+    (rw length-set (inv .0), carry (inv .1) some (omega (arith, count (inv .1) some _ _ (add .ensures) (less .ok) (less .ensures), c .if1 .left)))
 
 same-length-2 : tie.Need-same-length-2 Inv-loop μ-loop
 same-length-2 c = search needs
@@ -162,7 +219,7 @@ same-length-2 c = search needs
 returns-2 : tie.Need-returns-2 Inv-loop μ-loop
 returns-2 c =
     let e : c .before .loop .i ≡ 0 = omega arith in
-    λ p h s. absurd (wrapped _ _ _ _ p (rw e at (c .before .loop .inv .1)) h s)
+    λ p h s. absurd (wrapped _ _ _ _ _ p (rw e at (c .before .loop .inv .1)) h s)
 
 pub advance-spec : {M : Type 1} → statement M
 advance-spec =
@@ -172,9 +229,12 @@ advance-spec =
     μ-loop
     loop-holds
     sub-i
-    mul-x
-    slice-read-x
-    add-x
+    mul-low
+    array-read-low
+    mul-wrapping-add-u64
+    slice-read-wrapping-add-u64
+    wrapping-add-u64-requires
+    wrapping-sub-u64-requires
     mul-if1
     array-read-if1
     mul-v

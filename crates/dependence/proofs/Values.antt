@@ -8,7 +8,7 @@ use native.Mathlib.Decide.{ℕ-discrete}
 use native.Mathlib.Nat.{not-suc-le-zero}
 use native.Mathlib.Omega.{arith}
 use lib.IntN.{ℤ, pos, _+ℤ_, _-ℤ_, _*ℤ_}
-use lib.ListN.{getD, List·getD-append}
+use lib.ListN.{getD, List·getD-append, List·getD-map}
 use lib.Seq.{getD-at}
 use Rattle.fields.specs.File.{stepCount}
 use Rattle.fields.specs.Steps.{stepAt, stepsOf}
@@ -17,10 +17,11 @@ use Rattle.datapath.specs.Steps.{stepValue, values}
 use Rattle.datapath.specs.declared.Step.{Step}
 use Rattle.datapath.specs.declared.Step.the-variants.{Input, Constant, Add, Subtract, Multiply}
 use Rattle.datapath.proofs.Values.{length-values, values-step}
+use Rattle.words.specs.Words.{plain}
 use Rattle.dependence.specs.Dependence.{valueAt, Fixed}
 
 -- value i is the same in the list of all values and in that of the first i + 1
-module _ (ts : List Step) (x : List ℕ) where
+module _ (ts : List Step) (x : List ℤ) where
   value-stays : (n i : ℕ) → i < n → getD (values ts x n) i (pos 0) ≡ getD (values ts x (i + 1)) i (pos 0)
   unfolding values
   value-stays zero i h = absurd (not-suc-le-zero h)
@@ -36,24 +37,24 @@ module _ (ts : List Step) (x : List ℕ) where
 
 module _ (s x : List ℕ) (k : ℕ) (h : k < stepCount s) where
   -- the entry of the list of the values before step k is the step's value
-  value-before : (i : ℕ) → i < k → getD (values (stepsOf s) x k) i (pos 0) ≡ valueAt s x i
+  value-before : (i : ℕ) → i < k → getD (values (stepsOf s) (plain x) k) i (pos 0) ≡ valueAt s x i
   unfolding valueAt
-  value-before i l = value-stays (stepsOf s) x k i l ∙ sym (value-stays (stepsOf s) x (stepCount s) i (omega arith))
+  value-before i l = value-stays (stepsOf s) (plain x) k i l ∙ sym (value-stays (stepsOf s) (plain x) (stepCount s) i (omega arith))
 
-  value-of-step : valueAt s x k ≡ stepValue x (values (stepsOf s) x k) (stepAt s k)
+  value-of-step : valueAt s x k ≡ stepValue (plain x) (values (stepsOf s) (plain x) k) (stepAt s k)
   unfolding valueAt
   value-of-step =
-      value-stays (stepsOf s) x (stepCount s) k h
-      ∙ ap (λ vs. getD vs k (pos 0)) (values-step (stepsOf s) x k)
-      ∙ getD-at (values (stepsOf s) x k) _ [] (pos 0) k (length-values (stepsOf s) x k)
-      ∙ ap (stepValue x (values (stepsOf s) x k)) (steps-at s k h)
+      value-stays (stepsOf s) (plain x) (stepCount s) k h
+      ∙ ap (λ vs. getD vs k (pos 0)) (values-step (stepsOf s) (plain x) k)
+      ∙ getD-at (values (stepsOf s) (plain x) k) _ [] (pos 0) k (length-values (stepsOf s) (plain x) k)
+      ∙ ap (stepValue (plain x) (values (stepsOf s) (plain x) k)) (steps-at s k h)
 
-  value-of : (t : Step) → t ≡ stepAt s k → valueAt s x k ≡ stepValue x (values (stepsOf s) x k) t
-  value-of t e = value-of-step ∙ ap (stepValue x (values (stepsOf s) x k)) (sym e)
+  value-of : (t : Step) → t ≡ stepAt s k → valueAt s x k ≡ stepValue (plain x) (values (stepsOf s) (plain x) k) t
+  value-of t e = value-of-step ∙ ap (stepValue (plain x) (values (stepsOf s) (plain x) k)) (sym e)
 
   pub value-input : (i : ℕ) → Input i ≡ stepAt s k → valueAt s x k ≡ pos (getD x i 0)
   unfolding stepValue
-  value-input i e = value-of (Input i) e
+  value-input i e = value-of (Input i) e ∙ List·getD-map pos x i 0
 
   pub value-constant : (c : ℕ) → Constant c ≡ stepAt s k → valueAt s x k ≡ pos c
   unfolding stepValue
@@ -62,9 +63,9 @@ module _ (s x : List ℕ) (k : ℕ) (h : k < stepCount s) where
   -- a step with operands a and b before it, of which it is the result f
   module _ (a b : ℕ) (left : a < k) (right : b < k) where
     value-pair :
-        (t : Step) (f : ℤ → ℤ → ℤ) → ((vs : List ℤ) → stepValue x vs t ≡ f (getD vs a (pos 0)) (getD vs b (pos 0))) → t ≡ stepAt s k →
+        (t : Step) (f : ℤ → ℤ → ℤ) → ((vs : List ℤ) → stepValue (plain x) vs t ≡ f (getD vs a (pos 0)) (getD vs b (pos 0))) → t ≡ stepAt s k →
         valueAt s x k ≡ f (valueAt s x a) (valueAt s x b)
-    value-pair t f reads e = value-of t e ∙ reads (values (stepsOf s) x k) ∙ ap₂ f (value-before a left) (value-before b right)
+    value-pair t f reads e = value-of t e ∙ reads (values (stepsOf s) (plain x) k) ∙ ap₂ f (value-before a left) (value-before b right)
 
     pub value-sum : Add a b ≡ stepAt s k → valueAt s x k ≡ valueAt s x a +ℤ valueAt s x b
     unfolding stepValue

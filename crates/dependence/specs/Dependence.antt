@@ -1,6 +1,6 @@
 -- Which steps of a file depend on an input.
---   valueAt s x i                            the exact value of step i of the file s at the vector x
---   Beside j x y                             the vectors x and y are the same but for input j
+--   valueAt s x i                            the exact value of step i of the file s at the words x, read as natural numbers
+--   Beside j x y                             the words x and y are the same but for input j
 --   Fixed s j i                              step i does not depend on input j
 --   Listed n list c                          the first c entries of the list are indices below n, in increasing order
 --   Rest s j n list c                        each of the first n steps that is not among them does not depend on input j
@@ -22,9 +22,10 @@ use Rattle.fields.specs.File.{stepCount}
 use Rattle.fields.specs.Steps.{stepsOf}
 use Rattle.slices.specs.Slices.{KeptPast}
 use Rattle.datapath.specs.Steps.{values}
+use Rattle.words.specs.Words.{plain}
 
 unfoldable pub valueAt : List ℕ → List ℕ → ℕ → ℤ
-valueAt s x i = getD (values (stepsOf s) x (stepCount s)) i (pos 0)
+valueAt s x i = getD (values (stepsOf s) (plain x) (stepCount s)) i (pos 0)
 
 abbrev pub Beside : ℕ → List ℕ → List ℕ → Type 0
 Beside j x y = (i : ℕ) → ¬ (i ≡ j) → getD x i 0 ≡ getD y i 0

@@ -5,19 +5,27 @@ use Prim.Native.Nat.{ℕ, _+_, _*_, _-_, _%_, _^_, _<_}
 use native.Mathlib.Omega.{arith}
 use lib.IntN.{ℤ, pos}
 use lib.ListN.{length, getD, take, length-map, List·getD-append, List·getD-map}
+use lib.Pow.{pow-pos}
 use lib.Seq.{getD-take}
 use Rattle.file.specs.Accepted.{Accepted}
 use Rattle.fields.specs.File.{sizesOf, stepCount}
 use Rattle.fields.specs.Steps.{stepAt, stepsOf}
 use Rattle.fields.proofs.Steps.{length-steps}
+use Rattle.input_words.proofs.InputWords.{words-values}
 use Rattle.integers.specs.Modulo.{remainder}
+use Rattle.integers.proofs.Remainder.{remainder-pos}
+use Rattle.sizes.specs.Padded.{padded}
+use Rattle.sizes.specs.Sizes.{maxInputs, formatsOf}
+use Rattle.sizes.proofs.Formats.{length-formats}
+use Rattle.sizes.proofs.Padded.{padded-entry}
 use Rattle.datapath.specs.Steps.{stepValue, values, exact, output}
 use Rattle.datapath.specs.declared.Step.{Step}
 use Rattle.datapath.specs.declared.Step.the-variants.{Input, Constant, Add, Subtract, Multiply}
-use Rattle.datapath.proofs.Values.{length-values, values-entries}
-use Rattle.words.specs.Words.{word}
+use Rattle.datapath.proofs.Values.{length-values, output-congruent}
+use Rattle.words.specs.Words.{word, plain}
 use Rattle.words.proofs.Congruence.{word-pos, word-cut, word-add, word-sub, word-mul}
-use Rattle.evaluate.specs.Evaluate.{outputOf}
+use Rattle.evaluate.specs.Evaluate.{outputOf, vectorOf}
+use Rattle.evaluate.specs.Run.{wordOutput, SameOutput}
 
 -- an entry of the scratch slice is the word of the value that it holds
 operand-word :
@@ -26,17 +34,17 @@ unfolding remainder
 operand-word scratch vs k l e h =
     sym (getD-take k scratch l 0 h) ∙ ap (λ xs. getD xs l 0) e ∙ List·getD-map word vs l (pos 0)
 
--- the word r of step k, by what the step is, where the scratch slice holds the words of the values vs of the steps before
+-- the word r of step k at the words x, by what the step is, where the scratch slice holds the words of the values vs of the steps before
 module _ (s x scratch : List ℕ) (vs : List ℤ) (k r : ℕ) (held : take k scratch ≡ map word vs) where
   abbrev Right : Type 0
-  Right = r ≡ word (stepValue x vs (stepAt s k))
+  Right = r ≡ word (stepValue (plain x) vs (stepAt s k))
 
-  right : (t : Step) → t ≡ stepAt s k → r ≡ word (stepValue x vs t) → Right
-  right t e h = subst (λ u. r ≡ word (stepValue x vs u)) e h
+  right : (t : Step) → t ≡ stepAt s k → r ≡ word (stepValue (plain x) vs t) → Right
+  right t e h = subst (λ u. r ≡ word (stepValue (plain x) vs u)) e h
 
   pub input-word : (i : ℕ) → Input i ≡ stepAt s k → r ≡ getD x i 0 → r < 2 ^ 64 → Right
   unfolding stepValue
-  input-word i e q h = right (Input i) e (rw (← q) (sym (word-pos r h)))
+  input-word i e q h = right (Input i) e (sym (word-pos r h) ∙ ap word (ap pos q ∙ sym (List·getD-map pos x i 0)))
 
   pub constant-word : Constant r ≡ stepAt s k → r < 2 ^ 64 → Right
   unfolding stepValue
@@ -69,16 +77,45 @@ module _ (s x scratch : List ℕ) (vs : List ℤ) (k r : ℕ) (held : take k scr
 -- the last value cut to m bits is the output
 pub output-word :
     (s x rest : List ℕ) → Accepted s → (n : ℕ) → n ≡ stepCount s →
-    getD (map word (values (stepsOf s) x n) ++ rest) (n - 1) 0 % 2 ^ sizesOf s .m ≡ outputOf s x
+    getD (map word (values (stepsOf s) (plain x) n) ++ rest) (n - 1) 0 % 2 ^ sizesOf s .m ≡ wordOutput s x
 unfolding outputOf output exact remainder
 output-word s x rest a n e =
+    let vs = values (stepsOf s) (plain x) in
     ap (λ w. w % 2 ^ sizesOf s .m)
-    (List·getD-append (map word (values (stepsOf s) x n)) rest 0 (n - 1) (rw (length-map, length-values) (omega (arith, a .countLow)))
-    ∙ List·getD-map word (values (stepsOf s) x n) (n - 1) (pos 0))
-    ∙ word-cut (getD (values (stepsOf s) x n) (n - 1) (pos 0)) (sizesOf s .m) (a .outputHigh)
-    ∙ ap (λ k. remainder (getD (values (stepsOf s) x k) (k - 1) (pos 0)) (2 ^ sizesOf s .m)) (e ∙ sym (length-steps s))
+    (List·getD-append (map word (vs n)) rest 0 (n - 1) (rw (length-map, length-values) (omega (arith, a .countLow)))
+    ∙ List·getD-map word (vs n) (n - 1) (pos 0))
+    ∙ word-cut (getD (vs n) (n - 1) (pos 0)) (sizesOf s .m) (a .outputHigh)
+    ∙ ap (λ k. remainder (getD (vs k) (k - 1) (pos 0)) (2 ^ sizesOf s .m)) (e ∙ sym (length-steps s))
 
--- the output reads no more of a vector than its entries
-pub output-entries : (s x y : List ℕ) → ((i : ℕ) → getD x i 0 ≡ getD y i 0) → outputOf s x ≡ outputOf s y
-unfolding outputOf output exact
-output-entries s x y e = rw (values-entries (stepsOf s) x y (length (stepsOf s)) e)
+-- the output reads no more of the words than its entries
+pub output-entries : (s x y : List ℕ) → ((i : ℕ) → getD x i 0 ≡ getD y i 0) → wordOutput s x ≡ wordOutput s y
+unfolding outputOf
+output-entries s x y e =
+    output-congruent (sizesOf s .m) (plain x) (plain y)
+    (λ i. ap (λ z. remainder z (2 ^ sizesOf s .m)) (List·getD-map pos x i 0 ∙ ap pos (e i) ∙ sym (List·getD-map pos y i 0))) (stepsOf s)
+
+-- and words stand for every vector that has them
+pub sameOutput : SameOutput
+unfolding outputOf
+sameOutput s a x =
+    let m = sizesOf s .m in
+    output-congruent m (plain (map word x)) x
+    (λ i.
+    ap (λ z. remainder z (2 ^ m)) (List·getD-map pos (map word x) i 0 ∙ ap pos (word-entry i))
+    ∙ remainder-pos (word (getD x i (pos 0))) (2 ^ m)
+    ∙ word-cut (getD x i (pos 0)) m (a .outputHigh)) (stepsOf s)
+  where
+    word-entry : (i : ℕ) → getD (map word x) i 0 ≡ word (getD x i (pos 0))
+    word-entry i = ap (getD (map word x) i) (sym (word-pos 0 (pow-pos 64))) ∙ List·getD-map word x i (pos 0)
+
+-- so do words that are filled up with zeros
+pub padded-output : (s : List ℕ) → Accepted s → (x : List ℤ) → wordOutput s (padded (map word x)) ≡ outputOf s x
+padded-output s a x = output-entries s (padded (map word x)) (map word x) (padded-entry (map word x)) ∙ sameOutput s a x
+
+-- and the words that are given
+pub given-output :
+    (s : List ℕ) → Accepted s → (ws : List ℕ) → length (sizesOf s .widths) ≡ maxInputs → length ws ≡ sizesOf s .d → ((i : ℕ) → getD ws i 0 < 2 ^ 64) →
+    wordOutput s ws ≡ outputOf s (vectorOf (sizesOf s) ws)
+given-output s a ws w l h =
+    ap (wordOutput s) (sym (words-values (formatsOf (sizesOf s)) ws (length-formats (sizesOf s) (omega (arith, w, a .inputsHigh)) ∙ sym l) h))
+    ∙ sameOutput s a (vectorOf (sizesOf s) ws)

@@ -3,7 +3,7 @@
 --   EvaluateOrder s x len r   r is what the call is refused by:
 --     file     the file is not accepted: by what it is refused by
 --     room     else, the scratch slice has fewer entries than the file has steps: by 12
---     vector   else, the vector is not d long, or a value is not in its input's range: by 14
+--     vector   else, there are not d words, or one gives no value of its input: by 14
 --   EvaluateInOrder           so evaluating judges. Proved in proofs/Order
 use mathlib.Core.List.{List}
 use mathlib.Core.Path.{_≡_}

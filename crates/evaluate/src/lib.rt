@@ -5,6 +5,8 @@ use fields::read_sizes;
 use fields::step_at;
 use fields::step_count;
 use file::check;
+use formats::format_of;
+use input_words::in_format;
 use sizes::Refusal;
 use sizes::Sizes;
 use sizes::refused_by;
@@ -14,7 +16,7 @@ use words::wrapping_mul;
 ghost use mathlib.Core.Path.{_≡_};
 ghost use Prim.Native.Nat.{_≤_, _<_};
 ghost use lib.ListN.{length};
-ghost use Rattle.sizes.specs.Sizes.{maxInputs};
+ghost use Rattle.sizes.specs.Sizes.{Ruled};
 ghost use Rattle.evaluate.specs.Evaluate.{inRange, badVector, refusalAt};
 ghost use Rattle.evaluate.specs.Run.{stepWord, ran, Ready, Running, OutputAt, Evaluates};
 
@@ -24,20 +26,19 @@ pub struct Evaluated {
     pub output: u64,
 }
 
-// Whether input i's value is in its range, below 2^n.
+// Whether word i of a vector gives a value of input i, which is one of the d.
 fn in_range(z: Sizes, vector: &[u64], i: usize) -> bool
-    requires { ⌜ (i < maxInputs) × (i < length (now vector)) ⌝ }
+    requires { ⌜ Ruled z ⌝ }
+    requires { ⌜ (i < z .d) × (i < length (now vector)) ⌝ }
     ensures { λ r. ⌜ r ≡ inRange z (now (vector .entry)) i ⌝ }
 {
     let widths = z.widths;
-    let n = widths[i] as u64;
-    let x = vector[i];
-    cut(x, n) == x
+    in_format(format_of(widths[i]), vector[i])
 }
 
-// Whether a vector breaks condition 14: it is not exactly d long, or a value is not in its input's range.
+// Whether a vector breaks condition 14: there are not exactly d words, or one gives no value of its input.
 pub fn bad_vector(z: Sizes, vector: &[u64]) -> bool
-    requires { ⌜ z .d ≤ maxInputs ⌝ }
+    requires { ⌜ Ruled z ⌝ }
     ensures { λ r. ⌜ r ≡ badVector z (now (vector .entry)) ⌝ }
 {
     let d = z.d as usize;
@@ -86,7 +87,8 @@ fn run(file: &[u8], n: usize, vector: &[u64], scratch: &mut [u64])
     }
 }
 
-// The output of an accepted file at a vector of at least d values. The first n scratch entries are overwritten.
+// The output of an accepted file at a vector of at least d words, which stand for any integers with these words. The
+// first n scratch entries are overwritten.
 pub fn output_at(file: &[u8], n: usize, vector: &[u64], scratch: &mut [u64]) -> u64
     requires { ⌜ Ready (now file) n (now vector) (now scratch) ⌝ }
     ensures { λ r. ⌜
@@ -116,8 +118,8 @@ fn refusal_at(file: &[u8], vector: &[u64], room: usize) -> Refusal
     refused_by(0)
 }
 
-// The output of the file at the vector: the exact value of its last step modulo 2^m. Refused under document 01's
-// conditions 1 to 8, 12 and 14, in this order. Afterwards the first N scratch entries are zero and the others
+// The output of the file at the vector that the words give, in two's complement for a signed input: the exact value of
+// its last step modulo 2^m. Refused under document 01's conditions 1 to 8, 12 and 14, in this order. Afterwards the first N scratch entries are zero and the others
 // untouched; a refused call touches none.
 pub fn evaluate(file: &[u8], vector: &[u64], scratch: &mut [u64]) -> Evaluated
     ensures { λ r. ⌜

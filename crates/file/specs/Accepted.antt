@@ -2,7 +2,7 @@
 --   OperationRuled s k   7 with no test in it: the operation byte of step k is 1 to 5
 --   ArgumentRuled s k    8 with no test in it: the argument of step k, by its operation. An input is one of the d, a constant fits m bits,
 --                    both operands are earlier steps, and the upper half is 0
---   Accepted s       the rules of the head, the length, the word lengths and each step of s
+--   Accepted s       the rules of the head, the length, the width bytes and each step of s
 --   AcceptedExactly  a file has the number 0 exactly where it keeps them. Proved in proofs/Sound
 --   Counted s n      the file s is accepted and has n steps
 --   StepRule z k t   the rule of step k, t, of a file with sizes z: an input is one of the d, a constant fits m bits, operands are earlier steps
@@ -11,7 +11,7 @@ use mathlib.Core.Logic.{_↔_}
 use mathlib.Core.Path.{_≡_}
 use Prim.Native.Nat.{ℕ, _+_, _*_, _^_, _≤_, _<_}
 use lib.ListN.{length, getD}
-use Rattle.sizes.specs.Sizes.{maxInputs}
+use Rattle.sizes.specs.Sizes.{maxInputs, formatAt}
 use Rattle.sizes.specs.declared.Sizes.{Sizes}
 use Rattle.datapath.specs.declared.Step.{Step}
 use Rattle.datapath.specs.declared.Step.the-variants.{Input, Constant, Add, Subtract, Multiply}
@@ -37,8 +37,8 @@ pub record Accepted (s : List ℕ) : Type 0 where
   pub inputsHigh : sizesOf s .d ≤ maxInputs
   pub countLow : 1 ≤ stepCount s
   pub countHigh : stepCount s ≤ maxSteps
-  pub widthLow : (i : ℕ) → i < sizesOf s .d → 1 ≤ getD (sizesOf s .widths) i 0
-  pub widthHigh : (i : ℕ) → i < sizesOf s .d → getD (sizesOf s .widths) i 0 ≤ 64
+  pub widthLow : (i : ℕ) → i < sizesOf s .d → 1 ≤ formatAt (sizesOf s) i .length
+  pub widthHigh : (i : ℕ) → i < sizesOf s .d → formatAt (sizesOf s) i .length ≤ 64
   pub widthUnused : (i : ℕ) → sizesOf s .d ≤ i → i < maxInputs → getD (sizesOf s .widths) i 0 ≡ 0
   pub operations : (k : ℕ) → k < stepCount s → OperationRuled s k
   pub arguments : (k : ℕ) → k < stepCount s → ArgumentRuled s k

@@ -13,10 +13,10 @@ map-append f [] ys = refl
 map-append f (x ∷ xs) ys = ap (λ zs. f x ∷ zs) (map-append f xs ys)
 
 -- an entry of a map
-pub map-entry : (f : ℕ → ℕ) (l : List ℕ) (i : ℕ) → i < length l → getD (map f l) i 0 ≡ f (getD l i 0)
-map-entry f [] i h = absurd (omega arith)
-map-entry f (x ∷ xs) zero h = refl
-map-entry f (x ∷ xs) (suc i) h = map-entry f xs i (omega arith)
+pub map-entry : {A B : Type 0} (f : A → B) (l : List A) (i : ℕ) (a : A) (b : B) → i < length l → getD (map f l) i b ≡ f (getD l i a)
+map-entry f [] i a b h = absurd (omega arith)
+map-entry f (x ∷ xs) zero a b h = refl
+map-entry f (x ∷ xs) (suc i) a b h = map-entry f xs i a b (omega arith)
 
 -- the n entries of a list from i on, one by one
 abbrev pub entries : ℕ → List ℕ → ℕ → List ℕ

@@ -49,7 +49,12 @@ pub fn advance(axes: [u64; INPUTS], lows: [u64; INPUTS], d: usize, v: &mut [u64]
 
 // The vector one place after v, one of the grid's vectors. Where v is the last vector of all, nothing is promised of
 // the answer.
-pub fn next_vector(axes: [u64; INPUTS], lows: [u64; INPUTS], d: usize, v: [u64; INPUTS]) -> [u64; INPUTS]
+pub fn next_vector(
+    axes: [u64; INPUTS],
+    lows: [u64; INPUTS],
+    d: usize,
+    v: [u64; INPUTS],
+) -> [u64; INPUTS]
     requires { ⌜ d ≤ maxInputs ⌝ }
     requires { ⌜ Placed lows (take d axes) v ⌝ }
     ensures { λ r. ⌜ Next lows (take d axes) v r ⌝ }

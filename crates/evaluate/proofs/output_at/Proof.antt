@@ -10,7 +10,7 @@ use Rattle.fields.proofs.Heads.{head-short}
 use Rattle.fields.specs.Steps.{stepsOf}
 use Rattle.datapath.specs.Steps.{values}
 use Rattle.datapath.proofs.Values.{length-values}
-use Rattle.words.specs.Words.{word}
+use Rattle.words.specs.Words.{word, plain}
 use Rattle.evaluate.proofs.Words.{output-word}
 use borrow.Author.Needs.{needs}
 use Rattle.evaluate.proofs.output_at.Statement.{statement}
@@ -50,7 +50,7 @@ returns c =
           ∙ output-word (now (a .file)) (now (a .vector)) (drop (a .n) (now (a .scratch))) (p .sound) (a .n) (p .count);
       kept =
           ap (drop (a .n)) e
-          ∙ drop-at (map word (values (stepsOf (now (a .file))) (now (a .vector)) (a .n))) (drop (a .n) (now (a .scratch))) (a .n)
+          ∙ drop-at (map word (values (stepsOf (now (a .file))) (plain (now (a .vector))) (a .n))) (drop (a .n) (now (a .scratch))) (a .n)
           (rw (length-map, length-values));
     }
 

@@ -14,7 +14,7 @@ use Rattle.lists.proofs.Lists.{map-append, set-front}
 use Rattle.datapath.specs.Steps.{stepValue, values}
 use Rattle.datapath.specs.declared.Step.the-variants.{Constant}
 use Rattle.datapath.proofs.Values.{length-values, values-step}
-use Rattle.words.specs.Words.{word}
+use Rattle.words.specs.Words.{word, plain}
 use Rattle.evaluate.specs.Run.{Ready, Running}
 use Rattle.evaluate.proofs.run.Statement.{statement}
 use Rattle.evaluate.proofs.run.Tie as tie
@@ -22,10 +22,10 @@ use Rattle.evaluate.proofs.run.Tie as tie
 record Held (s : List ℕ) (n : ℕ) (x scratch₀ scratch : List ℕ) (k : ℕ) : Type 0 where
   within : k ≤ n
   long : length scratch ≡ length scratch₀
-  words : scratch ≡ map word (values (stepsOf s) x k) ++ drop k scratch₀
+  words : scratch ≡ map word (values (stepsOf s) (plain x) k) ++ drop k scratch₀
 
 module _ (s : List ℕ) (n : ℕ) (x scratch₀ scratch : List ℕ) (k : ℕ) (r : Ready s n x scratch₀) (h : Held s n x scratch₀ scratch k) where
-  front : length (map word (values (stepsOf s) x k)) ≡ k
+  front : length (map word (values (stepsOf s) (plain x) k)) ≡ k
   front = rw (length-map, length-values)
 
   running : Running s n x scratch k
@@ -37,7 +37,7 @@ module _ (s : List ℕ) (n : ℕ) (x scratch₀ scratch : List ℕ) (k : ℕ) (r
       }
 
   more :
-      (v : ℕ) → k < n → v ≡ word (stepValue x (values (stepsOf s) x k) (stepAt s k)) →
+      (v : ℕ) → k < n → v ≡ word (stepValue (plain x) (values (stepsOf s) (plain x) k) (stepAt s k)) →
       Held s n x scratch₀ (set scratch k v) (k + 1)
   more v l e =
       record { within = omega arith; long = rw length-set (h .long); words = ap (λ xs. set xs k v) (h .words) ∙ extended }
@@ -45,16 +45,16 @@ module _ (s : List ℕ) (n : ℕ) (x scratch₀ scratch : List ℕ) (k : ℕ) (r
       some : 0 < length (drop k scratch₀)
       some = rw length-drop (omega (arith, r .room))
 
-      next : map word (values (stepsOf s) x (k + 1)) ≡ map word (values (stepsOf s) x k) ++ (v ∷ [])
+      next : map word (values (stepsOf s) (plain x) (k + 1)) ≡ map word (values (stepsOf s) (plain x) k) ++ (v ∷ [])
       next =
-          ap (map word) (values-step (stepsOf s) x k)
-          ∙ map-append word (values (stepsOf s) x k) (stepValue x (values (stepsOf s) x k) (getD (stepsOf s) k (Constant 0)) ∷ [])
-          ∙ ap (λ t. map word (values (stepsOf s) x k) ++ (word (stepValue x (values (stepsOf s) x k) t) ∷ [])) (steps-at s k (omega (arith, r .count)))
-          ∙ ap (λ w. map word (values (stepsOf s) x k) ++ (w ∷ [])) (sym e)
+          ap (map word) (values-step (stepsOf s) (plain x) k)
+          ∙ map-append word (values (stepsOf s) (plain x) k) (stepValue (plain x) (values (stepsOf s) (plain x) k) (getD (stepsOf s) k (Constant 0)) ∷ [])
+          ∙ ap (λ t. map word (values (stepsOf s) (plain x) k) ++ (word (stepValue (plain x) (values (stepsOf s) (plain x) k) t) ∷ [])) (steps-at s k (omega (arith, r .count)))
+          ∙ ap (λ w. map word (values (stepsOf s) (plain x) k) ++ (w ∷ [])) (sym e)
 
-      extended : set (map word (values (stepsOf s) x k) ++ drop k scratch₀) k v ≡ map word (values (stepsOf s) x (k + 1)) ++ drop (k + 1) scratch₀
+      extended : set (map word (values (stepsOf s) (plain x) k) ++ drop k scratch₀) k v ≡ map word (values (stepsOf s) (plain x) (k + 1)) ++ drop (k + 1) scratch₀
       extended =
-          set-front (map word (values (stepsOf s) x k)) (drop k scratch₀) k v front some
+          set-front (map word (values (stepsOf s) (plain x) k)) (drop k scratch₀) k v front some
           ∙ ap₂ _++_ (sym next) (drop-drop 1 k scratch₀)
 
 abbrev Inv-loop : tie.InvT-loop

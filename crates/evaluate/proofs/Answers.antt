@@ -15,7 +15,7 @@ use Rattle.sizes.specs.Sizes.{refusedBy, accepted}
 use Rattle.ranges.proofs.Search.{true-or-false}
 use Rattle.sizes.specs.declared.Refusal.{Refusal}
 use Rattle.sizes.specs.declared.Sizes.{Sizes}
-use Rattle.evaluate.specs.Evaluate.{outputOf, badVector, refusalAt, evaluatedAt, evaluatedScratch}
+use Rattle.evaluate.specs.Evaluate.{outputOf, vectorOf, badVector, refusalAt, evaluatedAt, evaluatedScratch}
 
 module _ (s x : List ℕ) (len : ℕ) where
   pub at-file : ¬ (fileNumber s ≡ 0) → refusalAt s x len ≡ refusalOf 1 s
@@ -71,7 +71,7 @@ module _ (s x scratch : List ℕ) where
 
   pub answer-accepted :
       refusalAt s x (length scratch) .number ≡ 0 →
-      (record { refusal = refusalAt s x (length scratch); output = outputOf s x } ≡ evaluatedAt s x (length scratch)) ×
+      (record { refusal = refusalAt s x (length scratch); output = outputOf s (vectorOf (sizesOf s) x) } ≡ evaluatedAt s x (length scratch)) ×
       (replicate (stepCount s) 0 ++ drop (stepCount s) scratch ≡ evaluatedScratch s x scratch)
   unfolding evaluatedAt evaluatedScratch
   answer-accepted e = (rw (eq-eqb (refusalAt s x (length scratch) .number) 0 e), rw (eq-eqb (refusalAt s x (length scratch) .number) 0 e))

@@ -2,20 +2,24 @@
 use mathlib.Core.Path.{_≡_, sym, _∙_, ap, ap₂, subst}
 use mathlib.Core.List.{List, _++_, map}
 use Prim.Native.Nat.{ℕ, _+_, _*_, _-_, _%_, _^_, _<_}
+use native.Mathlib.Decide.{decLt}
 use native.Mathlib.Omega.{arith}
 use lib.IntN.{ℤ, pos}
-use lib.ListN.{length, getD, take, length-map, List·getD-append, List·getD-map}
+use lib.ListN.{length, getD, take, length-map, List·getD-append, List·getD-eq-default, List·getD-map}
 use lib.Pow.{pow-pos}
 use lib.Seq.{getD-take}
 use Rattle.file.specs.Accepted.{Accepted}
 use Rattle.fields.specs.File.{sizesOf, stepCount}
 use Rattle.fields.specs.Steps.{stepAt, stepsOf}
+use Rattle.fields.proofs.Heads.{length-widths}
 use Rattle.fields.proofs.Steps.{length-steps}
-use Rattle.input_words.proofs.InputWords.{words-values}
+use Rattle.formats.specs.declared.Format.{Format}
+use Rattle.input_words.proofs.InputWords.{values-entry, values-length, value-congruent}
 use Rattle.integers.specs.Modulo.{remainder}
 use Rattle.integers.proofs.Remainder.{remainder-pos}
 use Rattle.sizes.specs.Padded.{padded}
-use Rattle.sizes.specs.Sizes.{maxInputs, formatsOf}
+use Rattle.sizes.specs.Sizes.{formatAt, formatsOf}
+use Rattle.sizes.specs.declared.Sizes.{Sizes}
 use Rattle.sizes.proofs.Formats.{length-formats}
 use Rattle.sizes.proofs.Padded.{padded-entry}
 use Rattle.datapath.specs.Steps.{stepValue, values, exact, output}
@@ -113,9 +117,27 @@ pub padded-output : (s : List ℕ) → Accepted s → (x : List ℤ) → wordOut
 padded-output s a x = output-entries s (padded (map word x)) (map word x) (padded-entry (map word x)) ∙ sameOutput s a x
 
 -- and the words that are given
-pub given-output :
-    (s : List ℕ) → Accepted s → (ws : List ℕ) → length (sizesOf s .widths) ≡ maxInputs → length ws ≡ sizesOf s .d → ((i : ℕ) → getD ws i 0 < 2 ^ 64) →
-    wordOutput s ws ≡ outputOf s (vectorOf (sizesOf s) ws)
-given-output s a ws w l h =
-    ap (wordOutput s) (sym (words-values (formatsOf (sizesOf s)) ws (length-formats (sizesOf s) (omega (arith, w, a .inputsHigh)) ∙ sym l) h))
-    ∙ sameOutput s a (vectorOf (sizesOf s) ws)
+pub given-output : (s : List ℕ) → Accepted s → (ws : List ℕ) → length ws ≡ sizesOf s .d → wordOutput s ws ≡ outputOf s (vectorOf (sizesOf s) ws)
+unfolding outputOf
+given-output s a ws l =
+    output-congruent m (plain ws) (vectorOf z ws)
+    (λ i.
+    ap (λ v. remainder v (2 ^ m)) (List·getD-map pos ws i 0)
+    ∙ remainder-pos (getD ws i 0) (2 ^ m)
+    ∙ elim (decLt i (z .d)) [
+      | yes h ↦ sym (ap (λ v. remainder v (2 ^ m)) (values-entry fs ws i (formatAt z i) (omega (arith, each)) (omega arith)) ∙ value-congruent _ (getD ws i 0) m (a .outputHigh))
+      | no h ↦ sym (ap (λ v. remainder v (2 ^ m)) (List·getD-eq-default (vectorOf z ws) (pos 0) {n = i} (rw (values-length fs ws (omega (arith, each))) (omega (arith, each))))
+          ∙ remainder-pos 0 (2 ^ m) ∙ ap (λ n. n % 2 ^ m) (sym (List·getD-eq-default ws 0 {n = i} (omega arith))))
+    ]) (stepsOf s)
+  where
+    z : Sizes
+    z = sizesOf s
+
+    m : ℕ
+    m = z .m
+
+    fs : List Format
+    fs = formatsOf z
+
+    each : length fs ≡ z .d
+    each = length-formats z (omega (arith, length-widths s, a .inputsHigh))

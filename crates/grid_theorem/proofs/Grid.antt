@@ -39,7 +39,7 @@ pub each-axis : (m : ℕ) (fs : List Format) → length (lows fs) ≡ length (ax
 each-axis m fs = rw (length-map, length-map)
 
 -- every vector of the grid is full-width
-grid-full : (m : ℕ) (fs : List Format) (x : List ℤ) → OnAxes (lows fs) (axes m fs) x → FullWidth fs x
+pub grid-full : (m : ℕ) (fs : List Format) (x : List ℤ) → OnAxes (lows fs) (axes m fs) x → FullWidth fs x
 unfolding axis
 grid-full m [] [] b = tt
 grid-full m [] (v ∷ x) b = absurd b

@@ -1,7 +1,7 @@
 -- Words and values undo one another: in two's complement a word below 2^63 is its value, and from there on it is 2^64 more, as the word of a
 -- negative number is; and an input of up to 64 bits has no value outside of these. Of lists of words the same follows by recursion.
 -- Assumes nothing.
-use mathlib.Core.Bool.{Bool, true, false, _&&_}
+use mathlib.Core.Bool.{Bool, true, false, cond, _&&_}
 use mathlib.Core.List.{List, [], _∷_, _++_, map}
 use mathlib.Core.Logic.{_↔_}
 use mathlib.Core.Path.{_≡_, refl, sym, _∙_, ap, ap₂, subst}
@@ -10,7 +10,7 @@ use native.Mathlib.Decide.{decLt}
 use native.Mathlib.Nat.{mod-eq-of-lt}
 use native.Mathlib.Omega.{arith}
 use borrow.Author.Tests.{lt-ltb, le-ltb}
-use lib.Dec.{T, leb, leb→le, leb·zero}
+use lib.Dec.{T, ltb, leb, leb→le, leb·zero}
 use lib.IntN.{ℤ, pos, negsuc, negℤ, _+ℤ_, _-ℤ_, +ℤ-idl}
 use lib.ListN.{length, getD, take}
 use lib.Pow.{pow-pos, pow-mono}
@@ -19,11 +19,12 @@ use mir.Facts.{and-yes}
 use Rattle.formats.specs.Formats.{lowest, highest, InFormat, FullWidth}
 use Rattle.formats.specs.declared.Format.{Format}
 use Rattle.formats.proofs.Ends.{halves}
-use Rattle.integers.specs.Modulo.{remainder}
-use Rattle.integers.proofs.Remainder.{remainder-pos}
-use Rattle.integers.proofs.Ring.{sub-push, sub-eq}
+use Rattle.integers.specs.Modulo.{Divides, remainder}
+use Rattle.integers.proofs.Divisibility.{divides-neg, divides-coarse, divides-self}
+use Rattle.integers.proofs.Remainder.{remainder-pos, congruent→equal}
+use Rattle.integers.proofs.Ring.{sub-push, sub-eq, ring₂}
 use Rattle.words.specs.Words.{word}
-use Rattle.words.proofs.Congruence.{word-pos, word-add, word-cut}
+use Rattle.words.proofs.Congruence.{word-pos, word-add, power-split}
 use Rattle.input_words.proofs.Complement.{complement-negsuc}
 use Rattle.input_words.specs.InputWords.{signedValue, valueOf, valuesOf, Usable, inFormat, WordsValues}
 
@@ -214,6 +215,25 @@ words-values (f ∷ fs) (w ∷ ws) e h = ap₂ _∷_ (written f w (h 0)) (words-
 pub value-word-lowest : (f : Format) (t : ℕ) → (word (lowest f) + t) % 2 ^ 64 ≡ word (lowest f +ℤ pos t)
 value-word-lowest f t = let e = remainder-pos t (2 ^ 64) in omega arith ∙ word-add (lowest f) (pos t)
 
--- a word is congruent to its value modulo every power of 2 up to 2^64
-pub word-congruent : (f : Format) (w m : ℕ) → m ≤ 64 → w < 2 ^ 64 → remainder (valueOf f w) (2 ^ m) ≡ w % 2 ^ m
-word-congruent f w m h k = sym (word-cut (valueOf f w) m h) ∙ ap (λ x. x % 2 ^ m) (written f w k)
+-- a number is congruent to its value modulo every power of 2 up to 2^64, which divides 2^64
+less-congruent : (w W M : ℕ) → 0 < M → Divides M (pos W) → remainder (pos w -ℤ pos W) M ≡ remainder (pos w) M
+less-congruent w W M h d = congruent→equal (pos w -ℤ pos W) (pos w) M h (subst (Divides M) (sym (gone (pos w) (pos W))) (divides-neg d))
+  where
+    gone : (a b : ℤ) → (a -ℤ b) -ℤ a ≡ negℤ b
+    gone = ring₂ _ λ m n k l. simp sub-push (sub-eq _ _ _ _ (omega arith))
+
+power-divides : (m : ℕ) → m ≤ 64 → Divides (2 ^ m) (pos (2 ^ 64))
+power-divides m h =
+    divides-coarse (2 ^ (64 - m)) (2 ^ m) (subst (λ W. Divides W (pos (2 ^ 64))) (power-split 64 m h) (divides-self (2 ^ 64)))
+
+pub value-congruent : (f : Format) (w m : ℕ) → m ≤ 64 → remainder (valueOf f w) (2 ^ m) ≡ w % 2 ^ m
+unfolding valueOf signedValue
+value-congruent f w m h = by-sign (f .signed) ∙ remainder-pos w (2 ^ m)
+  where
+    by-half : (q : Bool) → remainder (cond q (pos w) (pos w -ℤ pos (2 ^ 64))) (2 ^ m) ≡ remainder (pos w) (2 ^ m)
+    by-half true = refl
+    by-half false = less-congruent w (2 ^ 64) (2 ^ m) (pow-pos m) (power-divides m h)
+
+    by-sign : (s : Bool) → remainder (cond s (signedValue w) (pos w)) (2 ^ m) ≡ remainder (pos w) (2 ^ m)
+    by-sign true = by-half (ltb w (2 ^ 63))
+    by-sign false = refl

@@ -7,16 +7,20 @@
 --       words               r holds that vector
 --       integers            whatever the lowest values with these words are, r holds the words of the integers at place p, and 0 past the last
 --   Placed lows us v        v holds one of the vectors of the grid
+--   GridWords z p           the vector at place p of the grid of the sizes z: its words are those of the integers, and give these back
+--   EachGridWords           so it is at every place, of sizes that keep their rules. Proved in proofs/GridWords
 --   Next lows us v r        where v holds the vector at a place that is not the last, r holds the one at the next place
 use mathlib.Core.Path.{_≡_}
 use mathlib.Core.List.{List, [], _∷_, map}
 use Prim.Native.Nat.{ℕ, _+_, _%_, _^_, _<_}
 use lib.IntN.{ℤ}
 use lib.ListN.{length}
-use Rattle.grid.specs.Grid.{lowsOf}
+use Rattle.grid.specs.Grid.{axesOf, lowsOf, gridSize, gridVector}
+use Rattle.input_words.specs.InputWords.{valuesOf}
 use Rattle.places.specs.Places.{size, digitsAt}
 use Rattle.places.specs.Vectors.{vectorAt}
 use Rattle.sizes.specs.Padded.{padded}
+use Rattle.sizes.specs.Sizes.{maxInputs, formatsOf, Ruled}
 use Rattle.sizes.specs.declared.Sizes.{Sizes}
 use Rattle.words.specs.Words.{word}
 
@@ -43,3 +47,10 @@ pub record Placed (lows us v : List ℕ) : Type 0 where
 
 abbrev pub Next : List ℕ → List ℕ → List ℕ → List ℕ → Type 0
 Next lows us v r = (p : ℕ) → p + 1 < size us → v ≡ heldAt lows us p → r ≡ heldAt lows us (p + 1)
+
+pub record GridWords (z : Sizes) (p : ℕ) : Type 0 where
+  pub words : heldAt (padded (lowWords z)) (axesOf z) p ≡ padded (map word (gridVector z p))
+  pub integers : valuesOf (formatsOf z) (padded (map word (gridVector z p))) ≡ gridVector z p
+
+abbrev pub EachGridWords : Type 0
+EachGridWords = (z : Sizes) → length (z .widths) ≡ maxInputs → Ruled z → (p : ℕ) → p < gridSize z → GridWords z p

@@ -1,11 +1,34 @@
 // The vectors of a grid, as the machine holds them: the one at a place, and the one after another. Of each input the
-// grid has consecutive values from its lowest up, as many as its axis; the words of the lowest values are given as lows.
+// grid has consecutive values from its lowest up, as many as its axis; lows are the words of the lowest values.
+use formats::format_of;
+use input_words::lowest_value;
+use input_words::word_of;
 use sizes::INPUTS;
+use sizes::Sizes;
+ghost use mathlib.Core.Path.{_≡_};
 ghost use Prim.Native.Nat.{_≤_, _<_};
 ghost use lib.ListN.{length, take};
 ghost use Rattle.places.specs.Places.{size};
-ghost use Rattle.sizes.specs.Sizes.{maxInputs};
-ghost use Rattle.vectors.specs.Vectors.{HoldsVector, Placed, Next};
+ghost use Rattle.sizes.specs.Padded.{padded};
+ghost use Rattle.sizes.specs.Sizes.{maxInputs, Ruled};
+ghost use Rattle.vectors.specs.Vectors.{lowWords, HoldsVector, Placed, Next};
+
+// The words of the lowest values of the inputs, with 0 past the last input.
+pub fn lowest_words(z: Sizes) -> [u64; INPUTS]
+    requires { ⌜ Ruled z ⌝ }
+    ensures { λ r. ⌜ r ≡ padded (lowWords z) ⌝ }
+{
+    let d = z.d as usize;
+    let widths = z.widths;
+    let mut lows = [0u64; INPUTS];
+    let mut i = 0;
+    while i < d {
+        let low = lowest_value(format_of(widths[i]));
+        lows[i] = word_of(low);
+        i += 1;
+    }
+    lows
+}
 
 // The vector at place p of the grid with the first d of the axes: the digits of p above the lowest values, the last
 // input varying fastest. The entries past d are those of lows.

@@ -13,6 +13,7 @@ use Rattle.sizes.specs.declared.Refusal.{Refusal}
 use Rattle.evaluate.specs.Evaluate.{refusalAt}
 use Rattle.evaluate.specs.declared.Evaluated.{Evaluated}
 use Rattle.evaluate.proofs.Answers.{Passed, passed, vector-long, answer-refused, answer-accepted}
+use Rattle.evaluate.proofs.Words.{given-output}
 use borrow.Author.Needs.{needs}
 use Rattle.evaluate.proofs.evaluate.Statement.{statement}
 use Rattle.evaluate.proofs.evaluate.Tie as tie
@@ -80,7 +81,7 @@ returns-2 c =
     let o = c .before .before .before .before .before .before .output-at .ensures in
     let w = answer-accepted (now (a .file)) (now (a .vector)) (now (a .scratch)) (sym (number (g .before)) ∙ g .if1 .left) in
     record {
-      answer = ap₂ answer (g .before .refusal-at .ensures) (o .output) ∙ w .0;
+      answer = ap₂ answer (g .before .refusal-at .ensures) (o .output ∙ given-output _ (rules g) _ (vector-long _ _ (free g .fits))) ∙ w .0;
       scratch =
           c .before .before .clear .ensures
           ∙ ap (λ l. replicate (place .step-count .result) 0 ++ l) (o .kept)

@@ -1,6 +1,6 @@
 -- `evaluate::refusal_at` meets its contract: the tests that led to each answer are those of its case.
 -- Assumes nothing.
-use mathlib.Core.Path.{_≡_, sym, _∙_, ap}
+use mathlib.Core.Path.{_≡_, sym, _∙_, ap, subst}
 use native.Mathlib.Omega.{arith}
 use denote.Ref.{now}
 use Rattle.fields.proofs.Heads.{head-short}
@@ -9,6 +9,8 @@ use Rattle.file.specs.Check.{fileNumber}
 use Rattle.fields.specs.File.{sizesOf}
 use Rattle.file.proofs.Accepted.{accepted}
 use Rattle.file.proofs.Number.{refusal-number}
+use Rattle.file.proofs.Sound.{file-ruled}
+use Rattle.sizes.specs.Sizes.{Ruled}
 use Rattle.sizes.specs.declared.Refusal.{Refusal}
 use Rattle.sizes.specs.declared.Sizes.{Sizes}
 use Rattle.evaluate.specs.Evaluate.{badVector}
@@ -54,8 +56,7 @@ read-sizes-requires : tie.Need-read-sizes-requires
 read-sizes-requires c κs = rules (c .before .before) .long
 
 bad-vector-requires : tie.Need-bad-vector-requires
-bad-vector-requires c κs =
-    omega (arith, rules (c .before .before .before) .inputsHigh, ap (λ (z : Sizes). z .d) (c .read-sizes .ensures))
+bad-vector-requires c κs = subst Ruled (sym (c .read-sizes .ensures)) (file-ruled _ (rules (c .before .before .before)))
 
 refused-by-requires-2 : tie.Need-refused-by-requires-2
 refused-by-requires-2 c κs = search needs

@@ -1,16 +1,21 @@
 -- `evaluate::step_word` meets its contract, by what the step is: an accepted file keeps an input's index below d and the operands of the others
 -- before step k, where the scratch slice holds their values.
 -- Assumes nothing.
+use mathlib.Core.List.{List}
 use mathlib.Core.Path.{_≡_, refl}
 use Prim.Native.Nat.{ℕ, _<_}
 use native.Mathlib.Omega.{arith}
 use borrow.Author.Needs.{needs}
 use denote.Ref.{now}
+use lib.IntN.{ℤ}
 use lib.ListN.{length}
 use Rattle.fields.specs.File.{sizesOf}
 use Rattle.file.specs.Check.{maxSteps}
 use Rattle.file.proofs.Accepted.{Is, is}
+use Rattle.fields.specs.Steps.{stepsOf}
+use Rattle.datapath.specs.Steps.{values}
 use Rattle.datapath.specs.declared.Step.{Step}
+use Rattle.words.specs.Words.{plain}
 use Rattle.evaluate.proofs.Words.{input-word, constant-word, sum-word, difference-word, product-word}
 use Rattle.evaluate.proofs.step_word.Statement.{statement}
 use Rattle.evaluate.proofs.step_word.Tie as tie
@@ -18,6 +23,16 @@ use Rattle.evaluate.proofs.step_word.Tie as tie
 -- the entry, from where the step has been read
 abbrev entry : tie.After-step-at → tie.Start
 entry b = b .before .before .before .before
+
+-- the file, the words, and the values of the steps before step k
+abbrev file : tie.After-step-at → List ℕ
+file b = now (entry b .args .file)
+
+abbrev vector : tie.After-step-at → List ℕ
+vector b = now (entry b .args .vector)
+
+abbrev before : tie.After-step-at → List ℤ
+before b = values (stepsOf (file b)) (plain (vector b)) (entry b .args .k)
 
 -- step k is what is read of it
 read : (b : tie.After-step-at) (u : Step) → b .step-at .result ≡ u → Is (now (entry b .args .file)) (entry b .args .k) u
@@ -121,30 +136,30 @@ returns : tie.Need-returns
 returns c =
     let b = c .before .before .before .before in
     let i = c .before .before .step .given in
-    input-word _ _ _ _ _ _ (entry b .pre .0 .words) _ (read b _ (i .1) .step) refl (omega (arith, c .shared-slice-known4 .given (i .0 .0)))
+    input-word (file b) (vector b) (now (entry b .args .scratch)) (before b) (entry b .args .k) _ (entry b .pre .0 .words) _ (read b _ (i .1) .step) refl (omega (arith, c .shared-slice-known4 .given (i .0 .0)))
 
 returns-2 : tie.Need-returns-2
 returns-2 c =
     let b = c .before .before .before in
-    constant-word _ _ _ _ _ _ (entry b .pre .0 .words) (read b _ (c .before .step2 .given .1) .step) (omega (arith, c .known-told2 .given))
+    constant-word (file b) (vector b) (now (entry b .args .scratch)) (before b) (entry b .args .k) _ (entry b .pre .0 .words) (read b _ (c .before .step2 .given .1) .step) (omega (arith, c .known-told2 .given))
 
 returns-3 : tie.Need-returns-3
 returns-3 c =
     let b = c .before .before .before .before .before .before in
     let i = read b _ (c .before .before .before .before .step3 .given .1) in
-    sum-word _ _ _ _ _ _ (entry b .pre .0 .words) _ _ (i .rule .0) (i .rule .1) (i .step) (c .wrapping-add-u64 .ensures)
+    sum-word (file b) (vector b) (now (entry b .args .scratch)) (before b) (entry b .args .k) _ (entry b .pre .0 .words) _ _ (i .rule .0) (i .rule .1) (i .step) (c .wrapping-add-u64 .ensures)
 
 returns-4 : tie.Need-returns-4
 returns-4 c =
     let b = c .before .before .before .before .before .before in
     let i = read b _ (c .before .before .before .before .step4 .given .1) in
-    difference-word _ _ _ _ _ _ (entry b .pre .0 .words) _ _ (i .rule .0) (i .rule .1) (i .step) (omega arith) (c .wrapping-sub-u64 .ensures)
+    difference-word (file b) (vector b) (now (entry b .args .scratch)) (before b) (entry b .args .k) _ (entry b .pre .0 .words) _ _ (i .rule .0) (i .rule .1) (i .step) (omega arith) (c .wrapping-sub-u64 .ensures)
 
 returns-5 : tie.Need-returns-5
 returns-5 c =
     let b = c .before .before .before .before .before .before in
     let i = read b _ (c .before .before .before .before .step5 .given .1) in
-    product-word _ _ _ _ _ _ (entry b .pre .0 .words) _ _ (i .rule .0) (i .rule .1) (i .step) (c .wrapping-mul .ensures)
+    product-word (file b) (vector b) (now (entry b .args .scratch)) (before b) (entry b .args .k) _ (entry b .pre .0 .words) _ _ (i .rule .0) (i .rule .1) (i .step) (c .wrapping-mul .ensures)
 
 pub step-word-spec : {M : Type 1} → statement M
 step-word-spec =

@@ -9,13 +9,16 @@ use native.Mathlib.Omega.{arith}
 use lib.Dec.{eqb}
 use lib.ListN.{length, getD, take}
 use Rattle.evaluate.specs.Evaluate.{outputOf}
+use Rattle.evaluate.specs.Run.{wordOutput}
+use Rattle.evaluate.proofs.Words.{padded-output}
+use Rattle.file.specs.Accepted.{Accepted}
 use Rattle.fields.specs.File.{sizesOf}
 use Rattle.fields.specs.Steps.{stepsOf}
-use Rattle.grid.specs.Grid.{axesOf}
+use Rattle.grid.specs.Grid.{axesOf, lowsOf, gridVector}
+use Rattle.grid.proofs.Grids.{length-lows}
 use Rattle.lanes.specs.Lanes.{Reads, HeldTo, Shown, Room}
 use Rattle.lanes.proofs.Stepped.{lane-output}
-use Rattle.places.specs.Places.{digitsAt}
-use Rattle.plan.specs.Comparison.{outputsDiffer}
+use Rattle.plan.specs.Comparison.{outputsDiffer, Comparable}
 use Rattle.plan.specs.declared.Plan.{Plan}
 use Rattle.plan.proofs.Numbers as plan
 use Rattle.row_lanes.specs.Lanes.{unequal}
@@ -23,20 +26,35 @@ use Rattle.rows.specs.Rows.{lane}
 use Rattle.rows.proofs.Writing.{before-row}
 use Rattle.ranges.specs.Search.{first}
 use Rattle.ranges.proofs.Search.{first-shift}
+use Rattle.sizes.specs.Padded.{padded}
 use Rattle.sizes.specs.Sizes.{maxInputs}
 use Rattle.sizes.specs.declared.Sizes.{Sizes}
 use Rattle.datapath.specs.Steps.{output}
 use Rattle.grid_theorem.specs.Comparison.{differsAt}
+use Rattle.vectors.specs.Vectors.{lowWords, heldAt}
+use Rattle.vectors.proofs.Raised.{held-integers}
 use Rattle.batches.specs.Prepared.{Prepared}
 use Rattle.batches.specs.declared.Shape.{Shape}
 
+-- the vector at place p, as words
+abbrev pub wordsAt : List ℕ → ℕ → List ℕ
+wordsAt s p = heldAt (padded (lowWords (sizesOf s))) (axesOf (sizesOf s)) p
+
+-- the outputs at these words are those at the grid's vector
+pub output-held : (s₁ s : List ℕ) → Accepted s → (p : ℕ) → wordOutput s (wordsAt s₁ p) ≡ outputOf s (gridVector (sizesOf s₁) p)
+unfolding gridVector lowWords
+output-held s₁ s a p =
+    let z = sizesOf s₁ in
+    ap (wordOutput s) (held-integers (lowsOf z) (axesOf z) p (length-lows z)) ∙ padded-output s a (gridVector z p)
+
 pub output-test :
-    (s₁ s₂ : List ℕ) (p : ℕ) → sizesOf s₁ ≡ sizesOf s₂ →
-    not (eqb (outputOf s₁ (digitsAt (axesOf (sizesOf s₁)) p)) (outputOf s₂ (digitsAt (axesOf (sizesOf s₁)) p))) ≡ outputsDiffer s₁ s₂ p
-unfolding outputsDiffer differsAt outputOf
-output-test s₁ s₂ p same =
-    let x = digitsAt (axesOf (sizesOf s₁)) p in
-    ap (λ (z : Sizes). not (eqb (outputOf s₁ x) (output (z .m) (stepsOf s₂) x))) (sym same)
+    (s₁ s₂ : List ℕ) (p : ℕ) → Comparable s₁ s₂ →
+    not (eqb (wordOutput s₁ (wordsAt s₁ p)) (wordOutput s₂ (wordsAt s₁ p))) ≡ outputsDiffer s₁ s₂ p
+unfolding outputsDiffer differsAt outputOf gridVector
+output-test s₁ s₂ p k =
+    let x = gridVector (sizesOf s₁) p in
+    ap₂ (λ a b. not (eqb a b)) (output-held s₁ s₁ (k .sound₁) p) (output-held s₁ s₂ (k .sound₂) p)
+    ∙ ap (λ (z : Sizes). not (eqb (outputOf s₁ x) (output (z .m) (stepsOf s₂) x))) (sym (k .same))
 
 module _
     {v : Shape} {s₁ s₂ : List ℕ} {g : Plan} {rows other : List ℕ} (k : Prepared v s₁ s₂ g rows other)
@@ -88,7 +106,7 @@ module _
 
     pub lane-test :
         (v u : List ℕ) (a b l : ℕ) (x : List ℕ) → Shown w s₁ x v l a → Shown w s₂ x u l b →
-        unequal w (sizesOf s₁ .m) v a u b l ≡ not (eqb (outputOf s₁ x) (outputOf s₂ x))
+        unequal w (sizesOf s₁ .m) v a u b l ≡ not (eqb (wordOutput s₁ x) (wordOutput s₂ x))
     unfolding unequal
     lane-test v u a b l x h₁ h₂ =
         ap₂ (λ p q. not (eqb p q)) h₁ (ap (λ (z : Sizes). lane w u b l % 2 ^ z .m) (k .planned .files .same) ∙ h₂)
@@ -109,7 +127,7 @@ module _
     -- lanes that hold the vectors from place p on, and rows a and b the outputs there: the first lane that differs is that of the first place
     pub batch-first :
         (inputs v u : List ℕ) (a b p live m r : ℕ) → m ≡ sizesOf s₁ .m → live ≤ w →
-        ((i l : ℕ) → i < maxInputs → l < live → lane w inputs i l ≡ getD (digitsAt (take d (g .axes)) (p + l)) i 0) →
+        ((i l : ℕ) → i < maxInputs → l < live → lane w inputs i l ≡ getD (heldAt (g .lows) (take d (g .axes)) (p + l)) i 0) →
         ((l : ℕ) (x : List ℕ) → l < w → Reads w s₁ inputs l x → Shown w s₁ x v l a) →
         ((l : ℕ) (x : List ℕ) → l < w → Reads w s₂ inputs l x → Shown w s₂ x u l b) →
         r ≡ first (unequal w m v a u b) 0 live → p + r ≡ first (outputsDiffer s₁ s₂) p live
@@ -120,7 +138,7 @@ module _
       where
         test : (l : ℕ) → l < live → unequal w (sizesOf s₁ .m) v a u b l ≡ outputsDiffer s₁ s₂ (p + l)
         test l h =
-            let x = digitsAt (axesOf (sizesOf s₁)) (p + l) in
-            let reads₁ : Reads w s₁ inputs l x = λ i hi. rw (plan.grid (k .planned)) at (columns i l (omega (arith, hi, k .planned .files .sound₁ .inputsHigh)) h) in
+            let x = wordsAt s₁ (p + l) in
+            let reads₁ : Reads w s₁ inputs l x = λ i hi. rw (plan.grid (k .planned), plan.lowest (k .planned)) at (columns i l (omega (arith, hi, k .planned .files .sound₁ .inputsHigh)) h) in
             lane-test v u a b l x (run₁ l x (omega arith) reads₁) (run₂ l x (omega arith) (λ i hi. reads₁ i (rw (k .planned .files .same) hi)))
-            ∙ output-test s₁ s₂ (p + l) (k .planned .files .same)
+            ∙ output-test s₁ s₂ (p + l) (k .planned .files)

@@ -1,15 +1,15 @@
 -- The steps of a file run at w vectors at once: each of the w lanes of the rows has a vector of its own, row i the values of step i.
 --   fewLanes                                    the lanes of a narrow row
 --   Width w                                     the rows have maxLanes or fewLanes lanes
---   Reads w s inputs l x                        lane l of the input rows is the vector x: row i has input i
+--   Reads w s inputs l x                        lane l of the input rows has the words x: row i has input i
 --   StandsFor m x u                             the word x stands for the integer u modulo 2^m
 --   Held w s x rows l i                         lane l of row i is the value of step i at x, modulo 2^m
 --   HeldTo w s x rows l k                       so are the first k rows
 --   Shown w s x rows l k                        lane l of row k is the output at x, modulo 2^m
 --   Room w s n inputs rows                      the rows have such a width, the file s is accepted and has n steps, and the slices have a row for each
 --                                               input and each step
---   VectorOnGrid s x                            the vector x is on the grid of the file s: each of its first d values is below its axis
---   LanesOnGrid w s inputs                      in every lane the input rows hold such a vector
+--   LanesOnGrid w s inputs                      in every lane the input rows hold a vector of the grid of the file s: row i has the word of one of the
+--                                               values that the grid has of input i
 --   Product w m before after k a b              only row k was written: in a lane in which rows a and b stand for u and v modulo 2^m, row k
 --                                               stands for their product
 --   Stepped w s inputs before after k           only row k was written, with the value of step k in each lane in which the rows before it hold
@@ -25,12 +25,12 @@ use Prim.Native.Nat.{ℕ, _*_, _%_, _^_, _≤_, _<_}
 use lib.IntN.{ℤ, _*ℤ_}
 use lib.ListN.{length, getD}
 use Rattle.dependence.specs.Dependence.{valueAt, Beside, Rest}
-use Rattle.evaluate.specs.Evaluate.{outputOf}
+use Rattle.evaluate.specs.Run.{wordOutput}
 use Rattle.file.specs.Accepted.{Accepted}
 use Rattle.fields.specs.File.{sizesOf, stepCount}
-use Rattle.grid.specs.Grid.{axesOf}
 use Rattle.integers.specs.Modulo.{remainder}
 use Rattle.rows.specs.Rows.{maxLanes, lane, OthersKept}
+use Rattle.vectors.specs.Vectors.{GridWord}
 
 abbrev pub fewLanes : ℕ
 fewLanes = 8
@@ -51,7 +51,7 @@ abbrev pub HeldTo : ℕ → List ℕ → List ℕ → List ℕ → ℕ → ℕ �
 HeldTo w s x rows l k = (i : ℕ) → i < k → Held w s x rows l i
 
 abbrev pub Shown : ℕ → List ℕ → List ℕ → List ℕ → ℕ → ℕ → Type 0
-Shown w s x rows l k = lane w rows k l % 2 ^ sizesOf s .m ≡ outputOf s x
+Shown w s x rows l k = lane w rows k l % 2 ^ sizesOf s .m ≡ wordOutput s x
 
 pub record Room (w : ℕ) (s : List ℕ) (n : ℕ) (inputs rows : List ℕ) : Type 0 where
   pub width : Width w
@@ -60,11 +60,8 @@ pub record Room (w : ℕ) (s : List ℕ) (n : ℕ) (inputs rows : List ℕ) : Ty
   pub inputRows : w * sizesOf s .d ≤ length inputs
   pub stepRows : w * n ≤ length rows
 
-abbrev pub VectorOnGrid : List ℕ → List ℕ → Type 0
-VectorOnGrid s x = (i : ℕ) → i < sizesOf s .d → getD x i 0 < getD (axesOf (sizesOf s)) i 0
-
 abbrev pub LanesOnGrid : ℕ → List ℕ → List ℕ → Type 0
-LanesOnGrid w s inputs = (i l : ℕ) → i < sizesOf s .d → l < w → lane w inputs i l < getD (axesOf (sizesOf s)) i 0
+LanesOnGrid w s inputs = (i l : ℕ) → i < sizesOf s .d → l < w → GridWord (sizesOf s) i (lane w inputs i l)
 
 pub record Product (w m : ℕ) (before after : List ℕ) (k a b : ℕ) : Type 0 where
   pub row :

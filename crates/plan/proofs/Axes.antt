@@ -9,8 +9,9 @@ use Rattle.fields.specs.File.{sizesOf}
 use Rattle.fields.proofs.Heads.{length-widths}
 use Rattle.file.specs.Accepted.{Accepted}
 use Rattle.file.proofs.Sound.{file-sound}
-use Rattle.grid.specs.Grid.{widthsOf, axesOf, gridSize}
+use Rattle.grid.specs.Grid.{axesOf, gridSize}
 use Rattle.grid.proofs.Axes.{axes-most}
+use Rattle.sizes.specs.Sizes.{formatsOf}
 use Rattle.grid.proofs.Grids.{length-axes, grid-least, grid-fits}
 
 module _ (s : List ℕ) (a : Accepted s) where
@@ -19,7 +20,7 @@ module _ (s : List ℕ) (a : Accepted s) where
 
   pub file-axis-most : (i : ℕ) → getD (axesOf (sizesOf s)) i 0 ≤ maxBound
   unfolding axesOf
-  file-axis-most i = axes-most (sizesOf s .m) (a .outputLow) (a .outputHigh) (widthsOf (sizesOf s)) i
+  file-axis-most i = axes-most (sizesOf s .m) (a .outputLow) (a .outputHigh) (formatsOf (sizesOf s)) i
 
   pub file-grid-least : 1 ≤ gridSize (sizesOf s)
   file-grid-least = grid-least (sizesOf s) (file-sound s a)

@@ -9,6 +9,8 @@ use Rattle.fields.specs.File.{sizesOf, stepCount}
 use Rattle.grid.specs.Grid.{axesOf, gridSize, gridOf}
 use Rattle.grid.proofs.Grids.{grid-axes}
 use Rattle.places.specs.Places.{size}
+use Rattle.sizes.specs.Padded.{padded}
+use Rattle.vectors.specs.Vectors.{lowWords}
 use Rattle.plan.specs.Plan.{planOf, Planned}
 use Rattle.plan.specs.declared.Plan.{Plan}
 use Rattle.fields.proofs.Heads.{length-widths}
@@ -38,6 +40,10 @@ module _ {s₁ s₂ : List ℕ} {p : Plan} (k : Planned s₁ s₂ p) where
   pub grid : take (p .d) (p .axes) ≡ axesOf (sizesOf s₁)
   unfolding planOf
   grid = rw (k .plan) (grid-axes (sizesOf s₁) (gridOf (sizesOf s₁)) refl (length-widths s₁) (k .files .sound₁ .inputsHigh))
+
+  pub lowest : p .lows ≡ padded (lowWords (sizesOf s₁))
+  unfolding planOf
+  lowest = ap (λ (q : Plan). q .lows) (k .plan)
 
   pub enough : p .d ≤ length (p .axes)
   enough =

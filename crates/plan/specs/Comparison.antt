@@ -14,13 +14,13 @@ use Prim.Native.Nat.{ℕ, _-_, max}
 use Rattle.file.specs.Accepted.{Accepted}
 use Rattle.fields.specs.File.{sizesOf, stepCount}
 use Rattle.fields.specs.Steps.{stepsOf}
-use Rattle.grid.specs.Grid.{axesOf}
+use Rattle.grid.specs.Grid.{axesOf, lowsOf}
 use Rattle.ranges.specs.Search.{first}
 use Rattle.slices.specs.Slices.{KeptPast}
 use Rattle.grid_theorem.specs.Comparison.{differsAt}
 
 unfoldable pub outputsDiffer : List ℕ → List ℕ → ℕ → Bool
-outputsDiffer s₁ s₂ = differsAt (sizesOf s₁ .m) (axesOf (sizesOf s₁)) (stepsOf s₁) (stepsOf s₂)
+outputsDiffer s₁ s₂ = differsAt (sizesOf s₁ .m) (lowsOf (sizesOf s₁)) (axesOf (sizesOf s₁)) (stepsOf s₁) (stepsOf s₂)
 
 abbrev pub largerCount : List ℕ → List ℕ → ℕ
 largerCount s₁ s₂ = max (stepCount s₁) (stepCount s₂)

@@ -14,13 +14,14 @@ use Rattle.lanes.proofs.Stepped.{width-most, width-least}
 use Rattle.places.specs.Places.{size}
 use Rattle.plan.specs.Comparison.{outputsDiffer}
 use Rattle.plan.specs.declared.Plan.{Plan}
+use Rattle.plan.proofs.Numbers as plan
 use Rattle.rows.specs.Rows.{maxLanes}
 use Rattle.ranges.specs.Search.{first}
 use Rattle.ranges.proofs.Search.{first-most, first-before, first-end, first-past, first-part}
 use Rattle.sizes.specs.Sizes.{maxInputs}
 use Rattle.batches.specs.Prepared.{Prepared}
 use Rattle.batches.specs.declared.Shape.{Shape}
-use Rattle.batches.proofs.OnGrid.{zeros-on-grid}
+use Rattle.batches.proofs.OnGrid.{lowest-on-grid}
 use Rattle.batches.proofs.Tests.{prepared-kept}
 use Rattle.batches.proofs.by_batches.Statement.{statement}
 use Rattle.batches.proofs.by_batches.Tie as tie
@@ -30,7 +31,7 @@ record Passed (v : Shape) (s₁ s₂ : List ℕ) (g : Plan) (from end : ℕ) (ro
   long₁ : length rows₁ ≡ length rows₁₀
   long₂ : length rows₂ ≡ length rows₂₀
   lanes : length inputs ≡ maxLanes * maxInputs
-  onGrid : LanesOnGrid (v .w) s₁ inputs
+  onGrid : end - p < v .w → LanesOnGrid (v .w) s₁ inputs
   within : p ≤ end
   inside : end ≤ size (take (g .d) (g .axes))
   same : first (outputsDiffer s₁ s₂) from (end - from) ≡ first (outputsDiffer s₁ s₂) p (end - p)
@@ -40,6 +41,7 @@ record Batch (w p end live : ℕ) : Type 0 where
   some : 1 ≤ live
   room : live ≤ w
   part : p + live ≤ end
+  all : live < w → end - p < w
 
 module _
     {v : Shape} {s₁ s₂ : List ℕ} {g : Plan} {from end : ℕ} {rows₁₀ rows₂₀ rows₁ rows₂ inputs : List ℕ} {p : ℕ}
@@ -67,7 +69,7 @@ module _
             long₁ = e₁ ∙ k .long₁;
             long₂ = e₂ ∙ k .long₂;
             lanes = e₃ ∙ k .lanes;
-            onGrid = on;
+            onGrid = λ fewer. on;
             within = short;
             inside = k .inside;
             same = k .same ∙ first-past f p (p + l) end (omega arith) short (λ i low high. first-before f p live i low (omega (arith, e)));
@@ -82,7 +84,7 @@ abbrev μ-loop : tie.MeasureT-loop
 
 -- the places: the entry, the loop's head, the count of live lanes, and the call that runs a batch
 abbrev entry : tie.At-loop Inv-loop μ-loop → tie.Start Inv-loop μ-loop
-entry c = c .before .before .before .before .before
+entry c = c .before .before .before .before .before .before .before .before .before
 
 abbrev head : tie.Joined1 Inv-loop μ-loop → tie.At-loop Inv-loop μ-loop
 head c = c .before .before
@@ -97,14 +99,37 @@ batch : (c : tie.Joined1 Inv-loop μ-loop) → Batch (entry (head c) .args .shap
 batch c =
     let least = width-least (head c .loop .inv .prepared .width) in
     ⊎-elim
-    (λ came. let t = c .before .loop-test .taken in record { some = omega (arith, came .1, t); room = omega (arith, came .0 .taken, came .1); part = omega (arith, came .1, t) })
-    (λ came. record { some = omega (arith, came .1); room = omega (arith, came .1); part = omega (arith, came .0 .left, came .1) })
+    (λ came. let t = c .before .loop-test .taken in record { some = omega (arith, came .1, t); room = omega (arith, came .0 .taken, came .1); part = omega (arith, came .1, t); all = λ few. omega (arith, came .1, few) })
+    (λ came. record { some = omega (arith, came .1); room = omega (arith, came .1); part = omega (arith, came .0 .left, came .1); all = λ few. absurd (omega (arith, came .1, few)) })
     (c .if1 .came)
+
+slice-aggregate-fill-lanes : tie.Need-slice-aggregate-fill-lanes Inv-loop μ-loop
+slice-aggregate-fill-lanes c = search needs
+
+sub-fill-lanes : tie.Need-sub-fill-lanes Inv-loop μ-loop
+sub-fill-lanes c = c .before .before .before .before .before .before .pre .1 .0
+
+fill-lanes-requires : tie.Need-fill-lanes-requires Inv-loop μ-loop
+fill-lanes-requires c κs =
+    let k = c .before .before .before .before .before .before .pre .0 in
+    (omega (arith, plan.inputs (k .planned), k .planned .files .sound₁ .inputsHigh), omega (arith, width-most (k .width)))
 
 loop-holds : tie.Need-loop-holds Inv-loop μ-loop
 loop-holds c =
-    let q = c .before .before .before .before .pre in
-    record { prepared = q .0; long₁ = refl; long₂ = refl; lanes = refl; onGrid = zeros-on-grid _ (q .0 .planned .files .sound₁) _ (maxLanes * maxInputs); within = q .1 .0; inside = q .1 .1; same = refl }
+    let e = c .before .before .before .before .before .before .before .before in
+    let q = e .pre in
+    let k = q .0 .planned in
+    let filled = c .before .fill-lanes in
+    record {
+      prepared = q .0;
+      long₁ = refl;
+      long₂ = refl;
+      lanes = filled .kept .0;
+      onGrid = λ fewer. lowest-on-grid (filled .last .0) k (plan.inputs k) (filled .ensures fewer);
+      within = q .1 .0;
+      inside = q .1 .1;
+      same = refl;
+    }
 
 sub-rest : tie.Need-sub-rest Inv-loop μ-loop
 sub-rest c = search needs
@@ -119,7 +144,7 @@ first-in-batch-requires c κs =
       k .prepared,
       (
         record { room = omega (arith, k .lanes, width-most (k .prepared .width)); some = b .some; few = b .room; inside = omega (arith, b .part, k .inside) },
-        k .onGrid,
+        λ i l hi dead hl. k .onGrid (b .all (omega (arith, dead, hl))) i l hi hl,
       ),
     )
 
@@ -169,6 +194,9 @@ by-batches-spec =
     (tie.spec
     Inv-loop
     μ-loop
+    slice-aggregate-fill-lanes
+    sub-fill-lanes
+    fill-lanes-requires
     loop-holds
     sub-rest
     slice-aggregate-first-in-batch

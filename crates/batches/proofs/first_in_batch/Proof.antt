@@ -19,7 +19,7 @@ use Rattle.batches.proofs.first_in_batch.Tie as tie
 
 -- the places: the entry, the call that sets the lanes, and those that run the files
 abbrev entry : tie.After-set-lanes → tie.Start
-entry c = c .before .before .before .before .before .before .before .before
+entry c = c .before .before .before .before .before .before .before .before .before
 
 abbrev lanes : tie.After-run-all → tie.After-set-lanes
 lanes c = c .before .before .before .before .before
@@ -59,7 +59,7 @@ copy-shown c l x h reads =
 
 set-lanes-requires : tie.Need-set-lanes-requires
 set-lanes-requires c κs =
-    let e = c .before .before .before .before .before .before .before in
+    let e = c .before .before .before .before .before .before .before .before in
     (omega (arith, plan.inputs (e .pre .0 .planned), e .pre .0 .planned .files .sound₁ .inputsHigh), e .pre .1 .0)
 
 run-all-requires : tie.Need-run-all-requires

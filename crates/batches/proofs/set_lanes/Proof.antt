@@ -10,30 +10,28 @@ use native.Mathlib.Omega.{arith}
 use borrow.Author.Needs.{needs}
 use denote.Ref.{now}
 use lib.ListN.{length, getD, take}
-use Rattle.places.specs.Places.{digitsAt}
 use Rattle.rows.specs.Rows.{lane}
 use Rattle.sizes.specs.Sizes.{maxInputs}
-use Rattle.sizes.specs.Padded.{padded}
-use Rattle.sizes.proofs.Padded.{padded-entry}
+use Rattle.vectors.specs.Vectors.{heldAt}
 use Rattle.batches.proofs.set_lanes.Statement.{statement}
 use Rattle.batches.proofs.set_lanes.Tie as tie
 
-record Columns (w : ℕ) (us : List ℕ) (p live : ℕ) (inputs₀ inputs v : List ℕ) (l : ℕ) : Type 0 where
+record Columns (w : ℕ) (lows us : List ℕ) (p live : ℕ) (inputs₀ inputs v : List ℕ) (l : ℕ) : Type 0 where
   some : 1 ≤ l
   within : l ≤ live
   long : length inputs ≡ length inputs₀
-  vector : v ≡ padded (digitsAt us (p + (l - 1)))
+  vector : v ≡ heldAt lows us (p + (l - 1))
   whole : length v ≡ maxInputs
-  columns : (i k : ℕ) → i < maxInputs → k < l → lane w inputs i k ≡ getD (digitsAt us (p + k)) i 0
+  columns : (i k : ℕ) → i < maxInputs → k < l → lane w inputs i k ≡ getD (heldAt lows us (p + k)) i 0
   others : (i k : ℕ) → l ≤ k → k < w → lane w inputs i k ≡ lane w inputs₀ i k
 
-module _ (w : ℕ) (us : List ℕ) (p live : ℕ) (inputs₀ inputs' v : List ℕ) (long : length inputs' ≡ length inputs₀) (room : live ≤ w) (whole : length v ≡ maxInputs) where
+module _ (w : ℕ) (lows us : List ℕ) (p live : ℕ) (inputs₀ inputs' v : List ℕ) (long : length inputs' ≡ length inputs₀) (room : live ≤ w) (whole : length v ≡ maxInputs) where
   -- lane l is set to the vector v at place q = p + l
   more :
-      (inputs : List ℕ) (l q : ℕ) → l < live → v ≡ padded (digitsAt us q) → q ≡ p + l → ((i : ℕ) → i < maxInputs → lane w inputs' i l ≡ getD v i 0) →
+      (inputs : List ℕ) (l q : ℕ) → l < live → v ≡ heldAt lows us q → q ≡ p + l → ((i : ℕ) → i < maxInputs → lane w inputs' i l ≡ getD v i 0) →
       ((i k : ℕ) → k < w → ¬ (k ≡ l) → lane w inputs' i k ≡ lane w inputs i k) →
-      ((i k : ℕ) → i < maxInputs → k < l → lane w inputs i k ≡ getD (digitsAt us (p + k)) i 0) →
-      ((i k : ℕ) → l + 1 ≤ k → k < w → lane w inputs' i k ≡ lane w inputs₀ i k) → Columns w us p live inputs₀ inputs' v (l + 1)
+      ((i k : ℕ) → i < maxInputs → k < l → lane w inputs i k ≡ getD (heldAt lows us (p + k)) i 0) →
+      ((i k : ℕ) → l + 1 ≤ k → k < w → lane w inputs' i k ≡ lane w inputs₀ i k) → Columns w lows us p live inputs₀ inputs' v (l + 1)
   more inputs l q h e at here others before after =
       let back : l + 1 - 1 ≡ l = omega arith in
       record {
@@ -43,23 +41,23 @@ module _ (w : ℕ) (us : List ℕ) (p live : ℕ) (inputs₀ inputs' v : List �
         vector = rw (back, ← at) e;
         whole = whole;
         columns = λ i k hi hk. ⊎-elim
-            (λ (same : k ≡ l). rw (same, ← at) (here i hi ∙ ap (λ w. getD w i 0) e ∙ padded-entry (digitsAt us q) i))
+            (λ (same : k ≡ l). rw (same, ← at) (here i hi ∙ ap (λ w. getD w i 0) e))
             (λ (less : k < l). others i k (omega arith) (λ same. omega arith) ∙ before i k hi less)
             (eq-or-lt-of-le (omega arith));
         others = after;
       }
 
   start :
-      (inputs : List ℕ) → 1 ≤ live → v ≡ padded (digitsAt us p) → ((i : ℕ) → i < maxInputs → lane w inputs' i 0 ≡ getD v i 0) →
+      (inputs : List ℕ) → 1 ≤ live → v ≡ heldAt lows us p → ((i : ℕ) → i < maxInputs → lane w inputs' i 0 ≡ getD v i 0) →
       ((i k : ℕ) → k < w → ¬ (k ≡ 0) → lane w inputs' i k ≡ lane w inputs i k) →
-      ((i k : ℕ) → 1 ≤ k → k < w → lane w inputs' i k ≡ lane w inputs₀ i k) → Columns w us p live inputs₀ inputs' v 1
+      ((i k : ℕ) → 1 ≤ k → k < w → lane w inputs' i k ≡ lane w inputs₀ i k) → Columns w lows us p live inputs₀ inputs' v 1
   start inputs h e here others after = more inputs 0 p h e (omega arith) here others (λ i k hi hk. absurd (omega arith)) after
 
 abbrev Inv-loop : tie.InvT-loop
-Inv-loop inputs₀ axes d p live w v₀ l₀ inputs v l = Columns w (take d axes) p live inputs₀ inputs v l
+Inv-loop inputs₀ axes lows d p live w v₀ l₀ inputs v l = Columns w lows (take d axes) p live inputs₀ inputs v l
 
 abbrev μ-loop : tie.MeasureT-loop
-μ-loop inputs₀ axes d p live w v₀ l₀ inputs v l = live - l
+μ-loop inputs₀ axes lows d p live w v₀ l₀ inputs v l = live - l
 
 -- the entry, from where the loop begins
 abbrev opened : tie.At-loop Inv-loop μ-loop → tie.Start Inv-loop μ-loop
@@ -78,8 +76,8 @@ loop-holds c =
     let entry = c .before .before .before .before .before .before in
     let q = entry .pre in
     let set = c .before .before .set-column .ensures in
-    start _ _ _ _ _ _ _ refl (q .1 .few) (search needs) (now (entry .args .inputs)) (q .1 .some)
-    (c .before .before .before .before .vector-at .ensures) (set .set) (set .others) (λ i k hl hk. refl)
+    start _ _ _ _ _ _ _ _ refl (q .1 .few) (search needs) (now (entry .args .inputs)) (q .1 .some)
+    (c .before .before .before .before .vector-at .ensures .words) (set .set) (set .others) (λ i k hl hk. refl)
 
 slice-aggregate-advance : tie.Need-slice-aggregate-advance Inv-loop μ-loop
 slice-aggregate-advance c = sym (c .before .before .loop .inv .whole)
@@ -123,7 +121,7 @@ loop-again c =
     let t = arg .before .before .before .before .loop-test .taken in
     let p = entry .args .p in
     let l = h .loop .l in
-    more _ _ _ _ _ _ _ (set .kept .0 ∙ k .long) (q .1 .few) (moved .kept .1 .1 .0 ∙ k .whole) (h .loop .inputs) l (p + (l - 1) + 1) t
+    more _ _ _ _ _ _ _ _ (set .kept .0 ∙ k .long) (q .1 .few) (moved .kept .1 .1 .1 .0 ∙ k .whole) (h .loop .inputs) l (p + (l - 1) + 1) t
     (moved .ensures (p + (l - 1)) (omega (arith, q .1 .inside, t, k .some)) (k .vector)) (omega (arith, k .some))
     (set .ensures .set) (set .ensures .others) (k .columns)
     (λ i j hl hj. set .ensures .others i j hj (λ same. omega (arith, hl, same)) ∙ k .others i j (omega (arith, hl)) hj)

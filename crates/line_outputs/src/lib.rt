@@ -12,12 +12,14 @@ ghost use Rattle.dependence.specs.Dependence.{Listed};
 ghost use Rattle.lanes.specs.Lanes.{Room, LanesOnGrid};
 ghost use Rattle.line_outputs.specs.AlongLines.{Refreshed, AlongLine, OutputsSaved, Matching};
 
-// How a file is run along lines: N, how many of its steps are listed, d, the axis of the last input, and the lanes.
+// How a file is run along lines: N, how many of its steps are listed, d, the axis of the last input and the word of its
+// lowest value, and the lanes.
 pub struct Along {
     pub n: usize,
     pub count: usize,
     pub d: usize,
     pub u: u64,
+    pub low: u64,
     pub w: usize,
 }
 
@@ -40,7 +42,8 @@ pub fn refresh(file: &[u8], along: Along, inputs: &[u64], rows: &mut [u64], list
     run_listed(file, n, inputs, rows, list, along.count, w);
 }
 
-// The outputs of a file along lines: row t of the saved rows becomes the outputs at the value t of the last input.
+// The outputs of a file along lines: row t of the saved rows becomes the outputs at the count t of the last input, from
+// its lowest value on.
 pub fn save_outputs(
     file: &[u8],
     along: Along,
@@ -59,17 +62,18 @@ pub fn save_outputs(
     let n = along.n;
     let d = along.d;
     let u = along.u;
+    let low = along.low;
     let w = along.w;
-    let mut value = 0;
-    while value < u {
-        fill_row(inputs, d - 1, value, w);
-        refresh(file, along, inputs, rows, list, value);
-        copy_row(rows, n - 1, saved, value as usize, w);
-        value += 1;
+    let mut count = 0;
+    while count < u {
+        fill_row(inputs, d - 1, std::num::wrapping_add_u64(low, count), w);
+        refresh(file, along, inputs, rows, list, count);
+        copy_row(rows, n - 1, saved, count as usize, w);
+        count += 1;
     }
 }
 
-// A count of first lanes that show the outputs of a file in the saved rows, at every value of the last input below its
+// A count of first lanes that show the outputs of a file in the saved rows, at every count of the last input below its
 // axis; that the lane after them does not is not promised.
 pub fn matching_lanes(
     file: &[u8],
@@ -88,11 +92,12 @@ pub fn matching_lanes(
     let n = along.n;
     let d = along.d;
     let u = along.u;
+    let low = along.low;
     let w = along.w;
     let mut matching = w;
     let mut at = 0;
     while at < u {
-        fill_row(inputs, d - 1, at, w);
+        fill_row(inputs, d - 1, std::num::wrapping_add_u64(low, at), w);
         refresh(file, along, inputs, rows, list, at);
         matching = first_unequal(saved, at as usize, rows, n - 1, m, matching, w);
         if matching == 0 {

@@ -2,12 +2,13 @@
 -- the outputs below t.
 -- Assumes nothing.
 use mathlib.Core.List.{List}
-use mathlib.Core.Path.{_∙_}
+use mathlib.Core.Path.{_≡_, _∙_}
 use Prim.Native.Nat.{ℕ, _-_, _≤_}
 use native.Mathlib.Omega.{arith}
 use Rattle.fields.proofs.Heads.{head-short}
 use Rattle.plan.proofs.Axes.{file-axis-most}
 use Rattle.rows.proofs.Writing.{before-row}
+use Rattle.line_outputs.specs.AlongLines.{lineWord}
 use Rattle.line_outputs.specs.declared.Along.{Along}
 use Rattle.line_outputs.proofs.AlongLines.{Walked, SavedTo, walk-start, walk-grid, walk-step, match-step}
 use Rattle.line_outputs.proofs.matching_lanes.Statement.{statement}
@@ -20,17 +21,20 @@ record Matched (a : Along) (s inputs₀ before rows inputs saved : List ℕ) (r 
   shown : SavedTo a s inputs₀ saved r t
 
 abbrev Inv-loop : tie.InvT-loop
-Inv-loop file along rows₀ list inputs₀ saved m n d u w agreeing₀ t₀ rows inputs agreeing t = Matched along file inputs₀ rows₀ rows inputs saved agreeing t
+Inv-loop file along rows₀ list inputs₀ saved m n d u low w agreeing₀ t₀ rows inputs agreeing t = Matched along file inputs₀ rows₀ rows inputs saved agreeing t
 
 abbrev μ-loop : tie.MeasureT-loop
-μ-loop file along rows₀ list inputs₀ saved m n d u w agreeing₀ t₀ rows inputs agreeing t = along .u - t
+μ-loop file along rows₀ list inputs₀ saved m n d u low w agreeing₀ t₀ rows inputs agreeing t = along .u - t
 
--- the places: the entry, the loop's head, and the calls of a round
+-- the places: the entry, the loop's head, and the calls of a round; and the word that the last input goes to
 abbrev entry : tie.At-loop Inv-loop μ-loop → tie.Start Inv-loop μ-loop
 entry c = c .before .before .before .before .before .before .before
 
 abbrev head : tie.After-fill-row Inv-loop μ-loop → tie.At-loop Inv-loop μ-loop
-head c = c .before .before .before
+head c = c .before .before .before .before
+
+word : (c : tie.After-fill-row Inv-loop μ-loop) → c .before .wrapping-add-u64 .result ≡ lineWord (entry (head c) .args .along .low) (head c .loop .at)
+word c = c .before .wrapping-add-u64 .ensures
 
 abbrev filled : tie.After-refresh Inv-loop μ-loop → tie.After-fill-row Inv-loop μ-loop
 filled c = c .before .before .before .before .before
@@ -48,7 +52,7 @@ loop-holds c =
       walked = walk-start _ _ _ _ (q .1 .0 .onGrid);
       within = omega arith;
       high = omega arith;
-      shown = λ l x g f h. absurd (omega arith);
+      shown = λ l c x g h. absurd (omega arith);
     }
 
 sub-fill-row : tie.Need-sub-fill-row Inv-loop μ-loop
@@ -56,11 +60,14 @@ sub-fill-row c =
     let q = entry (c .before .before) .pre in
     omega (arith, q .1 .0 .inputCount, q .0 .sound .inputsLow)
 
+wrapping-add-u64-requires : tie.Need-wrapping-add-u64-requires Inv-loop μ-loop
+wrapping-add-u64-requires c κs = tt
+
 fill-row-requires : tie.Need-fill-row-requires Inv-loop μ-loop
 fill-row-requires c κs =
-    let q = entry (c .before .before) .pre in
-    let a = entry (c .before .before) .args .along in
-    omega (arith, c .before .before .loop .inv .walked .long, q .1 .0 .room, before-row (a .w) (a .d - 1) (a .d) (omega (arith, q .1 .0 .inputCount, q .0 .sound .inputsLow)))
+    let q = entry (c .before .before .before) .pre in
+    let a = entry (c .before .before .before) .args .along in
+    omega (arith, c .before .before .before .loop .inv .walked .long, q .1 .0 .room, before-row (a .w) (a .d - 1) (a .d) (omega (arith, q .1 .0 .inputCount, q .0 .sound .inputsLow)))
 
 refresh-requires : tie.Need-refresh-requires Inv-loop μ-loop
 refresh-requires c κs =
@@ -74,7 +81,7 @@ refresh-requires c κs =
         inputRows = omega (arith, q .0 .inputRows, inv .long, f .fill-row .kept .0);
         stepRows = omega (arith, q .0 .stepRows, inv .longRows);
       },
-      (q .1 .0 .listed, walk-grid (q .1 .0) (q .0 .sound) inv (f .before .before .loop-test .taken) (f .fill-row .ensures)),
+      (q .1 .0 .listed, walk-grid (q .1 .0) (q .0 .sound) inv (f .before .before .before .loop-test .taken) (word f) (f .fill-row .ensures)),
     )
 
 sub-first-unequal : tie.Need-sub-first-unequal Inv-loop μ-loop
@@ -89,7 +96,7 @@ first-unequal-requires c κs =
     let q = entry (head f) .pre in
     let a = entry (head f) .args .along in
     let inv = head f .loop .inv in (
-      omega (arith, before-row (a .w) (head f .loop .at) (a .u) (f .before .before .loop-test .taken), q .1 .1),
+      omega (arith, before-row (a .w) (head f .loop .at) (a .u) (f .before .before .before .loop-test .taken), q .1 .1),
       omega (arith, before-row (a .w) (a .n - 1) (a .n) (omega (arith, q .0 .count, q .0 .sound .countLow)), q .0 .stepRows, inv .walked .longRows, r .refresh .kept .1 .1 .1 .0),
       inv .high,
     )
@@ -105,16 +112,16 @@ same-length-2 c =
     f .fill-row .kept .0 ∙ head f .loop .inv .walked .long
 
 returns : tie.Need-returns Inv-loop μ-loop
-returns c = record { high = omega arith; shown = λ l x h. absurd (omega arith) }
+returns c = record { high = omega arith; shown = λ l c x h. absurd (omega arith) }
 
 add-at : tie.Need-add-at Inv-loop μ-loop
 add-at c =
     let f = filled (run (c .before)) in
     let q = entry (head f) .pre in
-    omega (arith, f .before .before .loop-test .taken, q .1 .0 .axis, file-axis-most _ (q .0 .sound) (entry (head f) .args .along .d - 1))
+    omega (arith, f .before .before .before .loop-test .taken, q .1 .0 .axis, file-axis-most _ (q .0 .sound) (entry (head f) .args .along .d - 1))
 
 loop-less : tie.Need-loop-less Inv-loop μ-loop
-loop-less c = omega (arith, filled (run (c .before)) .before .before .loop-test .taken)
+loop-less c = omega (arith, filled (run (c .before)) .before .before .before .loop-test .taken)
 
 loop-again : tie.Need-loop-again Inv-loop μ-loop
 loop-again c =
@@ -122,13 +129,13 @@ loop-again c =
     let f = filled r in
     let q = entry (head f) .pre in
     let inv = head f .loop .inv in
-    let below = f .before .before .loop-test .taken in
+    let below = f .before .before .before .loop-test .taken in
     let next =
-    match-step (q .1 .0) (q .0 .sound) (inv .walked) below (f .fill-row .ensures) (r .refresh .last .1 .1 .1 .0) (r .refresh .ensures) _ _ _ _ (q .0 .count) (head f .before .output-length .ensures) (inv .high)
+    match-step (q .1 .0) (q .0 .sound) (inv .walked) below (word f) (f .fill-row .ensures) (r .refresh .last .1 .1 .1 .0) (r .refresh .ensures) _ _ _ _ (q .0 .count) (head f .before .output-length .ensures) (inv .high)
     (inv .shown) (c .before .first-unequal .ensures) in
     record {
       walked =
-          walk-step (q .1 .0) (q .0 .sound) (inv .walked) below (f .fill-row .ensures) (r .refresh .last .1 .1 .1 .0) (r .refresh .ensures) (f .fill-row .kept .0)
+          walk-step (q .1 .0) (q .0 .sound) (inv .walked) below (word f) (f .fill-row .ensures) (r .refresh .last .1 .1 .1 .0) (r .refresh .ensures) (f .fill-row .kept .0)
           (r .refresh .kept .1 .1 .1 .0);
       within = omega (arith, below);
       high = omega (arith, next .0, inv .high);
@@ -144,7 +151,7 @@ same-length-4 c = c .before .loop .inv .walked .long
 returns-2 : tie.Need-returns-2 Inv-loop μ-loop
 returns-2 c =
     let inv = c .before .loop .inv in
-    record { high = inv .high; shown = λ l x g f h. inv .shown l x g f (omega (arith, h, c .loop-test .left)) }
+    record { high = inv .high; shown = λ l t x g h. inv .shown l t x g (omega (arith, h, c .loop-test .left)) }
 
 pub matching-lanes-spec : {M : Type 1} → statement M
 matching-lanes-spec =
@@ -155,6 +162,7 @@ matching-lanes-spec =
     output-length-requires
     loop-holds
     sub-fill-row
+    wrapping-add-u64-requires
     fill-row-requires
     refresh-requires
     sub-first-unequal

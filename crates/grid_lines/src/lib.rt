@@ -18,7 +18,7 @@ pub struct Counts {
     pub c2: usize,
 }
 
-// A count of first lanes that agree in the outputs at every value of the last input below its axis; that the lane after
+// A count of first lanes that agree in the outputs at every count of the last input below its axis; that the lane after
 // them does not is not promised. Each file has rows of its own. The input rows before the last hold the other inputs of
 // each lane. All lanes are on the grid.
 fn agreeing_apart(
@@ -45,12 +45,15 @@ fn agreeing_apart(
     let m = plan.m;
     let w = shape.w;
     let axes = plan.axes;
+    let lows = plan.lows;
     let u = axes[d - 1];
+    let low = lows[d - 1];
     let along1 = Along {
         n: n1,
         count: counts.c1,
         d,
         u,
+        low,
         w,
     };
     let along2 = Along {
@@ -58,12 +61,13 @@ fn agreeing_apart(
         count: counts.c2,
         d,
         u,
+        low,
         w,
     };
     let mut agreeing = w;
     let mut t = 0;
     while t < u {
-        fill_row(inputs, d - 1, t, w);
+        fill_row(inputs, d - 1, std::num::wrapping_add_u64(low, t), w);
         refresh(file1, along1, inputs, rows, list1, t);
         refresh(file2, along2, inputs, other, list2, t);
         agreeing = first_unequal(rows, n1 - 1, other, n2 - 1, m, agreeing, w);
@@ -96,13 +100,16 @@ fn agreeing_in_turn(
 {
     let d = plan.d;
     let axes = plan.axes;
+    let lows = plan.lows;
     let u = axes[d - 1];
+    let low = lows[d - 1];
     let w = shape.w;
     let along1 = Along {
         n: plan.n1,
         count: counts.c1,
         d,
         u,
+        low,
         w,
     };
     let along2 = Along {
@@ -110,6 +117,7 @@ fn agreeing_in_turn(
         count: counts.c2,
         d,
         u,
+        low,
         w,
     };
     save_outputs(file1, along1, rows, list1, inputs, other);

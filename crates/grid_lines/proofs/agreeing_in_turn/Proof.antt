@@ -10,7 +10,7 @@ use lib.ListN.{length, getD}
 use Rattle.batches.specs.Prepared.{maxAxis}
 use Rattle.batches.proofs.OnGrid.{same-grid}
 use Rattle.batches.proofs.Tests.{room₁, room₂}
-use Rattle.evaluate.specs.Evaluate.{outputOf}
+use Rattle.evaluate.specs.Run.{wordOutput}
 use Rattle.fields.specs.File.{sizesOf}
 use Rattle.grid.specs.Grid.{axesOf}
 use Rattle.lanes.specs.Lanes.{Shown}
@@ -18,19 +18,20 @@ use Rattle.plan.proofs.Axes.{file-axis-most}
 use Rattle.plan.proofs.Numbers as plan
 use Rattle.rows.specs.Rows.{lane}
 use Rattle.sizes.specs.declared.Sizes.{Sizes}
+use Rattle.vectors.specs.Vectors.{lowWords}
 use Rattle.grid_lines.specs.Lines.{lastAxis}
-use Rattle.grid_lines.proofs.Lines.{axis-at}
+use Rattle.grid_lines.proofs.Lines.{axis-at, low-at}
 use Rattle.grid_lines.proofs.agreeing_in_turn.Statement.{statement}
 use Rattle.grid_lines.proofs.agreeing_in_turn.Tie as tie
 
 -- two files of the same sizes whose outputs a lane shows have the same output
 both-shown :
-    (w : ℕ) (s₁ s₂ x saved : List ℕ) (l t : ℕ) → sizesOf s₁ ≡ sizesOf s₂ → Shown w s₁ x saved l t → Shown w s₂ x saved l t → outputOf s₁ x ≡ outputOf s₂ x
+    (w : ℕ) (s₁ s₂ x saved : List ℕ) (l t : ℕ) → sizesOf s₁ ≡ sizesOf s₂ → Shown w s₁ x saved l t → Shown w s₂ x saved l t → wordOutput s₁ x ≡ wordOutput s₂ x
 both-shown w s₁ s₂ x saved l t same h₁ h₂ = sym h₁ ∙ ap (λ (z : Sizes). lane w saved t l % 2 ^ z .m) same ∙ h₂
 
--- the places: the entry, from where the axes are read and from the call that saves the outputs, and that call from the end
-abbrev start : tie.After-axes → tie.Start
-start c = c .before .before .before .before .before .before .before .before
+-- the places: the entry, from where the axes and the lowest words are read and from the call that saves the outputs, and that call from the end
+abbrev start : tie.After-lows → tie.Start
+start c = c .before .before .before .before .before .before .before .before .before
 
 abbrev entry : tie.After-save-outputs → tie.Start
 entry c = start (c .before .before .before .before)
@@ -64,6 +65,15 @@ array-read-u c =
     let k = start c .pre .0 in
     omega (arith, plan.inputs (k .planned), k .planned .files .sound₁ .inputsLow, k .planned .files .sound₁ .inputsHigh)
 
+sub-low : tie.Need-sub-low
+sub-low c = sub-u c
+
+mul-low : tie.Need-mul-low
+mul-low c = mul-u c
+
+array-read-low : tie.Need-array-read-low
+array-read-low c = array-read-u c
+
 save-outputs-requires : tie.Need-save-outputs-requires
 save-outputs-requires c κs =
     let e = start (c .before .before .before) in
@@ -73,6 +83,7 @@ save-outputs-requires c κs =
         record {
           inputCount = plan.inputs (q .0 .planned);
           axis = axis e;
+          lowest = low-at (q .0 .planned) (e .args .plan .d - 1);
           listed = q .1 .1 .0 .listed₁;
           rest = q .1 .1 .0 .rest₁;
           room = q .1 .1 .1 .room;
@@ -94,6 +105,9 @@ matching-lanes-requires c κs =
         record {
           inputCount = plan.inputs (k .planned) ∙ ap (λ (z : Sizes). z .d) (k .planned .files .same);
           axis = axis e ∙ ap (λ (z : Sizes). getD (axesOf z) (e .args .plan .d - 1) 0) (k .planned .files .same);
+          lowest =
+              low-at (k .planned) (e .args .plan .d - 1)
+              ∙ ap (λ (z : Sizes). getD (lowWords z) (e .args .plan .d - 1) 0) (k .planned .files .same);
           listed = q .1 .1 .0 .listed₂;
           rest = q .1 .1 .0 .rest₂;
           room = omega (arith, q .1 .1 .1 .room, called .kept .1 .1 .1 .1 .0);
@@ -120,9 +134,9 @@ returns c =
     record {
       high = matching .high;
       agree =
-          λ l x h f below. both-shown _ _ _ x (s .save-outputs .last .1 .1 .1 .1 .1 .0) l _ (entry s .pre .0 .planned .files .same)
-          (saved .outputs l x (omega (arith, h, matching .high)) f below)
-          (matching .shown l x h (λ i g. saved .fronts i l g (omega (arith, h, matching .high)) ∙ f i g) below);
+          λ l t x h below f last. both-shown _ _ _ x (s .save-outputs .last .1 .1 .1 .1 .1 .0) l t (entry s .pre .0 .planned .files .same)
+          (saved .outputs l t x (omega (arith, h, matching .high)) below f last)
+          (matching .shown l t x h below (λ i g. saved .fronts i l g (omega (arith, h, matching .high)) ∙ f i g) last);
     }
 
 pub agreeing-in-turn-spec : {M : Type 1} → statement M
@@ -132,6 +146,9 @@ agreeing-in-turn-spec =
     sub-u
     mul-u
     array-read-u
+    sub-low
+    mul-low
+    array-read-low
     save-outputs-requires
     matching-lanes-requires
     same-length

@@ -8,8 +8,9 @@
 --   Shown w s x rows l k                        lane l of row k is the output at x, modulo 2^m
 --   Room w s n inputs rows                      the rows have such a width, the file s is accepted and has n steps, and the slices have a row for each
 --                                               input and each step
---   LanesOnGrid w s inputs                      in every lane the input rows hold a vector of the grid of the file s: row i has the word of one of the
---                                               values that the grid has of input i
+--   VectorOnGrid s x                            the words x are a vector of the grid of the file s: each of the first d is the word of one of the values that
+--                                               the grid has of its input
+--   LanesOnGrid w s inputs                      in every lane the input rows hold such a vector
 --   Product w m before after k a b              only row k was written: in a lane in which rows a and b stand for u and v modulo 2^m, row k
 --                                               stands for their product
 --   Stepped w s inputs before after k           only row k was written, with the value of step k in each lane in which the rows before it hold
@@ -59,6 +60,9 @@ pub record Room (w : ℕ) (s : List ℕ) (n : ℕ) (inputs rows : List ℕ) : Ty
   pub count : n ≡ stepCount s
   pub inputRows : w * sizesOf s .d ≤ length inputs
   pub stepRows : w * n ≤ length rows
+
+abbrev pub VectorOnGrid : List ℕ → List ℕ → Type 0
+VectorOnGrid s x = (i : ℕ) → i < sizesOf s .d → GridWord (sizesOf s) i (getD x i 0)
 
 abbrev pub LanesOnGrid : ℕ → List ℕ → List ℕ → Type 0
 LanesOnGrid w s inputs = (i l : ℕ) → i < sizesOf s .d → l < w → GridWord (sizesOf s) i (lane w inputs i l)

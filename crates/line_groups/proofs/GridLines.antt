@@ -1,10 +1,10 @@
--- The lines of a grid: of the vector at place p, the entries before the last are the vector at place p / u of the grid without the last axis u,
--- and the last one is below u. The entries before the last are below their axes.
+-- The lines of a grid: of the digits of place p, those before the last are the digits of place p / u of the grid without the last axis u, and the
+-- last one is p % u. Those before the last are below their axes.
 -- Assumes nothing.
 use mathlib.Core.Path.{_≡_, _∙_, ap}
 use mathlib.Core.List.{List, [], _∷_, _++_}
 use Prim.Native.Nat.{ℕ, suc, _*_, _-_, _/_, _%_, _≤_, _<_}
-use native.Mathlib.Nat.{div-lt-iff-lt-mul, mod-lt}
+use native.Mathlib.Nat.{div-lt-iff-lt-mul}
 use native.Mathlib.Omega.{arith}
 use lib.ListN.{length, getD, take, List·getD-append, List·getD-eq-default}
 use lib.Seq.{getD-at, getD-take, length-take-le, take-suc}
@@ -57,5 +57,5 @@ module _ (axes : List ℕ) (d : ℕ) (low : 1 ≤ d) (high : d ≤ length axes) 
     pub line-front : (i : ℕ) → i < d - 1 → getD (digitsAt (take d axes) p) i 0 ≡ getD (digitsAt (take (d - 1) axes) (p / getD axes (d - 1) 0)) i 0
     line-front i l = ap (λ v. getD v i 0) split ∙ List·getD-append front _ 0 i (omega (arith, length-front _ line))
 
-    pub line-last : getD (digitsAt (take d axes) p) (d - 1) 0 < getD axes (d - 1) 0
-    line-last = omega (arith, ap (λ v. getD v (d - 1) 0) split ∙ getD-at front _ [] 0 (d - 1) (length-front _ line), mod-lt p (last-axis-least p h))
+    pub line-last : getD (digitsAt (take d axes) p) (d - 1) 0 ≡ p % getD axes (d - 1) 0
+    line-last = ap (λ v. getD v (d - 1) 0) split ∙ getD-at front _ [] 0 (d - 1) (length-front _ line)

@@ -41,6 +41,7 @@ pub fn agreed_lines(
 {
     let d = plan.d;
     let axes = plan.axes;
+    let lows = plan.lows;
     let w = shape.w;
     let stop = span.end;
     let c1 = list_dependent(file1, plan.n1, d - 1, flags, list1);
@@ -50,7 +51,7 @@ pub fn agreed_lines(
     let wide = w as u64;
     let mut r = span.from;
     while wide <= stop - r {
-        set_lanes(&mut inputs, axes, d - 1, r, w, w);
+        set_lanes(&mut inputs, axes, lows, d - 1, r, w, w);
         let l = agreeing_lanes(
             file1,
             file2,

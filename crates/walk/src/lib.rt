@@ -43,13 +43,14 @@ pub fn by_places(file1: &[u8], file2: &[u8], plan: Plan, span: Span, scratch: &m
         ⌝ }
 {
     let axes = plan.axes;
-    let mut v = vector_at(axes, plan.d, span.from);
+    let lows = plan.lows;
+    let mut v = vector_at(axes, lows, plan.d, span.from);
     let mut p = span.from;
     while p < span.end {
         if differ_at(file1, plan.n1, file2, plan.n2, &v, scratch) {
             return p;
         }
-        v = next_vector(axes, plan.d, v);
+        v = next_vector(axes, lows, plan.d, v);
         p += 1;
     }
     p

@@ -3,19 +3,21 @@
 use mathlib.Core.Bool.{false, not}
 use mathlib.Core.List.{List}
 use mathlib.Core.Path.{_≡_, refl, sym, _∙_, ap}
-use Prim.Native.Nat.{ℕ, _+_, _*_, _-_, _/_, _^_, _≤_, _<_, max}
+use Prim.Native.Nat.{ℕ, _+_, _*_, _-_, _/_, _%_, _^_, _≤_, _<_, max}
 use native.Mathlib.Decide.{decLt}
-use native.Mathlib.Nat.{div-lt-iff-lt-mul, le-div-iff-mul-le, le-of-mul-le-mul-right, le-trans, le-max-left, le-max-right, le-mul-of-pos-right, mul-le-mul-right}
+use native.Mathlib.Nat.{div-lt-iff-lt-mul, mod-lt, le-div-iff-mul-le, le-of-mul-le-mul-right, le-trans, le-max-left, le-max-right, le-mul-of-pos-right, mul-le-mul-right}
 use native.Mathlib.Omega.{arith}
 use borrow.Author.Tests.{eq-eqb}
 use denote.Ref.{now}
-use lib.ListN.{length, getD, take, drop}
+use lib.ListN.{length, getD, take, drop, length-take}
 use Rattle.batches.specs.Batch.{LanesSet}
 use Rattle.batches.specs.Prepared.{Prepared}
 use Rattle.batches.specs.declared.Shape.{Shape}
 use Rattle.grid.specs.Grid.{gridSize}
 use Rattle.batches.proofs.Tests.{output-test, inputs-room, prepared-kept}
-use Rattle.evaluate.specs.Evaluate.{outputOf}
+use Rattle.batches.proofs.OnGrid.{held-entry}
+use Rattle.evaluate.specs.Run.{wordOutput}
+use Rattle.fields.specs.File.{sizesOf}
 use Rattle.lanes.specs.Lanes.{LanesOnGrid}
 use Rattle.lanes.proofs.Stepped.{width-most, width-least}
 use Rattle.lists.proofs.Lists.{drop-later}
@@ -26,9 +28,10 @@ use Rattle.plan.proofs.Numbers as plan
 use Rattle.places.specs.Places.{size, digitsAt}
 use Rattle.rows.specs.Rows.{maxLanes, lane}
 use Rattle.sizes.specs.Sizes.{maxInputs}
-use Rattle.grid_lines.specs.Lines.{lastAxis}
-use Rattle.grid_lines.proofs.Lines.{axis-at}
-use Rattle.line_outputs.specs.AlongLines.{Front}
+use Rattle.grid_lines.specs.Lines.{lastAxis, lastLow}
+use Rattle.grid_lines.proofs.Lines.{axis-at, low-at}
+use Rattle.line_outputs.specs.AlongLines.{Front, Last}
+use Rattle.vectors.specs.Vectors.{lowWords, heldAt}
 use Rattle.line_groups.proofs.GridLines.{size-lines, last-axis-least, front-most, front-last, line-front, line-last}
 use Rattle.line_groups.proofs.agreed_lines.Statement.{statement}
 use Rattle.line_groups.proofs.agreed_lines.Tie as tie
@@ -79,26 +82,43 @@ module _
       lines-left : r + w ≤ size (take (d - 1) axes)
       lines-left = le-of-mul-le-mul-right (rw (size-lines axes d some (k .enough)) at block) last-least
 
-      -- the lanes set to the lines of the grid from r on, with 0 for the last input, are on the grid
-      on-grid : (before inputs' : List ℕ) → LanesSet w (take (d - 1) axes) r w before inputs' → LanesOnGrid w s₁ inputs'
+      -- an entry of the words at a place of the grid or of its lines
+      lows-entry :
+          (us : List ℕ) (p i : ℕ) → length us ≤ maxInputs → i < maxInputs →
+          getD (heldAt (g .lows) us p) i 0 ≡ (getD (lowWords (sizesOf s₁)) i 0 + getD (digitsAt us p) i 0) % 2 ^ 64
+      lows-entry us p i few h =
+          ap (λ l. getD (heldAt l us p) i 0) (plan.lowest (k .prepared .planned)) ∙ held-entry s₁ (k .prepared .planned .files .sound₁) us p i few h
+
+      few-lines : length (take (d - 1) axes) ≤ maxInputs
+      few-lines = rw length-take (omega (arith, plan.inputs (k .prepared .planned), k .prepared .planned .files .sound₁ .inputsHigh))
+
+      -- the lanes set to the lines of the grid from r on, with the lowest value of the last input, are on the grid
+      on-grid : (before inputs' : List ℕ) → LanesSet w (g .lows) (take (d - 1) axes) r w before inputs' → LanesOnGrid w s₁ inputs'
       on-grid before inputs' wr i l h t =
           let line : r + l < size (take (d - 1) axes) = omega (arith, lines-left) in
           let axis = axis-at (k .prepared .planned) i (omega (arith, h, plan.inputs (k .prepared .planned))) in
-          let at = wr .set i l (omega (arith, h, k .prepared .planned .files .sound₁ .inputsHigh)) t in
-          elim (decLt i (d - 1)) [
-            | yes front ↦ omega (arith, at, axis, front-most axes d some (k .enough) (r + l) line i front)
-            | no end ↦
-                let last : i ≡ d - 1 = omega (arith, h, plan.inputs (k .prepared .planned)) in
-                let zero : getD (digitsAt (take (d - 1) axes) (r + l)) i 0 ≡ 0 = rw last (front-last axes d some (k .enough) (r + l) line) in
-                let pos : 0 < getD axes i 0 = rw last last-least in
-                omega (arith, at, axis)
-          ]
+          let room : i < maxInputs = omega (arith, h, k .prepared .planned .files .sound₁ .inputsHigh) in
+          record {
+            count = getD (digitsAt (take (d - 1) axes) (r + l)) i 0;
+            below = elim (decLt i (d - 1)) [
+              | yes front ↦ omega (arith, axis, front-most axes d some (k .enough) (r + l) line i front)
+              | no end ↦
+                  let last : i ≡ d - 1 = omega (arith, h, plan.inputs (k .prepared .planned)) in
+                  let zero : getD (digitsAt (take (d - 1) axes) (r + l)) i 0 ≡ 0 = rw last (front-last axes d some (k .enough) (r + l) line) in
+                  let pos : 0 < getD axes i 0 = rw last last-least in
+                  omega (arith, axis)
+            ];
+            above = wr .set i l room t ∙ lows-entry (take (d - 1) axes) (r + l) i few-lines room;
+          }
 
       module _
-          (inputs' : List ℕ) (filled : (i l : ℕ) → i < maxInputs → l < w → lane w inputs' i l ≡ getD (digitsAt (take (d - 1) axes) (r + l)) i 0)
+          (inputs' : List ℕ) (filled : (i l : ℕ) → i < maxInputs → l < w → lane w inputs' i l ≡ getD (heldAt (g .lows) (take (d - 1) axes) (r + l)) i 0)
           (a : ℕ) (few : a ≤ w)
-          (agrees : (l : ℕ) (x : List ℕ) → l < a → Front w d inputs' l x → getD x (d - 1) 0 < u → outputOf s₁ x ≡ outputOf s₂ x)
+          (agrees : (l t : ℕ) (x : List ℕ) → l < a → t < u → Front w d inputs' l x → Last d (lastLow g) t x → wordOutput s₁ x ≡ wordOutput s₂ x)
         where
+          few-axes : length (take d axes) ≤ maxInputs
+          few-axes = rw length-take (omega (arith, plan.inputs (k .prepared .planned), k .prepared .planned .files .sound₁ .inputsHigh))
+
           -- a place of the block is in the row of lane p / u - r
           place : (p : ℕ) → r * u ≤ p → p < (r + a) * u → outputsDiffer s₁ s₂ p ≡ false
           place p low high =
@@ -108,10 +128,24 @@ module _
               let below : p / u < r + a = div-lt-iff-lt-mul last-least .1 high in
               let l : p / u - r < a = omega arith in
               let e : r + (p / u - r) ≡ p / u = omega arith in
-              let front : Front w d inputs' (p / u - r) (digitsAt (take d axes) p) =
-              λ i g. filled i (p / u - r) (omega (arith, g, plan.inputs (k .prepared .planned), k .prepared .planned .files .sound₁ .inputsHigh)) (omega arith) ∙ ap (λ q. getD (digitsAt (take (d - 1) axes) q) i 0) e ∙ sym (line-front axes d some (k .enough) p h i g) in
-              let same = agrees (p / u - r) (digitsAt (take d axes) p) l front (line-last axes d some (k .enough) p h) in
-              sym (output-test s₁ s₂ p (k .prepared .planned .files .same)) ∙ ap not (eq-eqb _ _ (rw (plan.grid (k .prepared .planned)) at same))
+              let x = heldAt (g .lows) (take d axes) p in
+              let low-word : ℕ → ℕ = λ i. getD (lowWords (sizesOf s₁)) i 0 in
+              let front : Front w d inputs' (p / u - r) x =
+              λ i g.
+              let room : i < maxInputs = omega (arith, g, plan.inputs (k .prepared .planned), k .prepared .planned .files .sound₁ .inputsHigh) in
+              filled i (p / u - r) room (omega arith)
+              ∙ lows-entry (take (d - 1) axes) (r + (p / u - r)) i few-lines room
+              ∙ ap (λ q. (low-word i + getD (digitsAt (take (d - 1) axes) q) i 0) % 2 ^ 64) e
+              ∙ ap (λ n. (low-word i + n) % 2 ^ 64) (sym (line-front axes d some (k .enough) p h i g))
+              ∙ sym (lows-entry (take d axes) p i few-axes room) in
+              let room : d - 1 < maxInputs = omega (arith, plan.inputs (k .prepared .planned), k .prepared .planned .files .sound₁ .inputsHigh, some) in
+              let last : Last d (lastLow g) (p % u) x =
+              lows-entry (take d axes) p (d - 1) few-axes room
+              ∙ ap (λ n. (low-word (d - 1) + n) % 2 ^ 64) (line-last axes d some (k .enough) p h)
+              ∙ ap (λ n. (n + p % u) % 2 ^ 64) (sym (low-at (k .prepared .planned) (d - 1))) in
+              let same = agrees (p / u - r) (p % u) x l (mod-lt p last-least) front last in
+              sym (output-test s₁ s₂ p (k .prepared .planned .files))
+              ∙ ap not (eq-eqb _ _ (rw (plan.grid (k .prepared .planned), plan.lowest (k .prepared .planned)) at same))
 
           passed : (p : ℕ) → from * u ≤ p → p < (r + a) * u → outputsDiffer s₁ s₂ p ≡ false
           passed p low high = elim (decLt p (r * u)) [ yes h ↦ k .agree p low h | no h ↦ place p (omega arith) high ]
@@ -134,16 +168,16 @@ module _
               }
 
 abbrev Inv-loop : tie.InvT-loop
-Inv-loop file1 file2 plan shape rows1₀ rows2₀ list1 list2 flags d axes w stop c1 c2 counts inputs₀ wide r₀ rows1 rows2 inputs r =
+Inv-loop file1 file2 plan shape rows1₀ rows2₀ list1 list2 flags d axes lows w stop c1 c2 counts inputs₀ wide r₀ rows1 rows2 inputs r =
     Passed shape file1 file2 plan r₀ stop rows1₀ rows2₀ rows1 rows2 inputs r
 
 abbrev μ-loop : tie.MeasureT-loop
-μ-loop file1 file2 plan shape rows1₀ rows2₀ list1 list2 flags d axes w stop c1 c2 counts inputs₀ wide r₀ rows1 rows2 inputs r = stop - r
+μ-loop file1 file2 plan shape rows1₀ rows2₀ list1 list2 flags d axes lows w stop c1 c2 counts inputs₀ wide r₀ rows1 rows2 inputs r = stop - r
 
 -- the places: the entry, the calls that list the steps, the loop's head, the call that sets the lanes, and the group of a round that ends the loop
 -- or does not
 abbrev entry : tie.After-list-dependent Inv-loop μ-loop → tie.Start Inv-loop μ-loop
-entry c = c .before .before .before .before .before .before .before .before .before .before .before
+entry c = c .before .before .before .before .before .before .before .before .before .before .before .before
 
 abbrev first : tie.After-list-dependent2 Inv-loop μ-loop → tie.After-list-dependent Inv-loop μ-loop
 first c = c .before .before .before .before .before .before .before
@@ -175,12 +209,12 @@ flags-kept c =
 
 sub-list-dependent : tie.Need-sub-list-dependent Inv-loop μ-loop
 sub-list-dependent c =
-    let k = c .before .before .before .before .before .before .before .before .pre .0 in
+    let k = c .before .before .before .before .before .before .before .before .before .pre .0 in
     omega (arith, plan.inputs (k .planned), k .planned .files .sound₁ .inputsLow)
 
 list-dependent-requires : tie.Need-list-dependent-requires Inv-loop μ-loop
 list-dependent-requires c κs =
-    let e = c .before .before .before .before .before .before .before .before .before .before in
+    let e = c .before .before .before .before .before .before .before .before .before .before .before in
     let q = e .pre in
     let k = q .0 .planned in
     (record { sound = k .files .sound₁; count = plan.count₁ k }, (omega (arith, q .1 .0 .flagged, le-max-left (e .args .plan .n1) (e .args .plan .n2)), q .1 .0 .room₁))

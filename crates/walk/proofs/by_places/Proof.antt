@@ -1,7 +1,7 @@
 -- `walk::by_places` meets its contract. The loop's invariant: v holds the vector at place p while p is before the end, the outputs
 -- agree at every place passed, and the scratch entries past the larger count are as at entry.
 -- Assumes nothing.
-use mathlib.Core.Path.{_≡_, refl, sym, _∙_, ap}
+use mathlib.Core.Path.{_≡_, refl, sym, _∙_, ap, ap₂}
 use mathlib.Core.Bool.{Bool, true, false, not}
 use mathlib.Core.List.{List}
 use Prim.Native.Nat.{ℕ, _+_, _-_, _≤_, _<_, max}
@@ -11,10 +11,10 @@ use borrow.Author.Needs.{needs}
 use lib.Dec.{eqb}
 use lib.ListN.{length, take, drop}
 use Rattle.batches.proofs.OnGrid.{place-on-grid}
-use Rattle.evaluate.specs.Evaluate.{outputOf}
-use Rattle.evaluate.specs.Run.{Ready}
+use Rattle.batches.proofs.Tests.{wordsAt, output-test}
+use Rattle.evaluate.specs.Run.{wordOutput, Ready}
 use Rattle.lanes.specs.Lanes.{VectorOnGrid}
-use Rattle.places.specs.Places.{size, digitsAt}
+use Rattle.places.specs.Places.{size}
 use Rattle.plan.specs.Comparison.{outputsDiffer}
 use Rattle.plan.specs.declared.Plan.{Plan}
 use Rattle.plan.specs.declared.Span.{Span}
@@ -22,11 +22,8 @@ use Rattle.plan.proofs.Numbers as plan
 use Rattle.ranges.specs.Search.{first}
 use Rattle.ranges.proofs.Search.{first-here, first-step, first-end}
 use Rattle.sizes.specs.Sizes.{maxInputs}
-use Rattle.sizes.specs.Padded.{padded}
-use Rattle.vectors.specs.Vectors.{Placed}
-use Rattle.sizes.proofs.Padded.{padded-entry}
+use Rattle.vectors.specs.Vectors.{heldAt, Placed, Next}
 use Rattle.walk.specs.Walk.{Within}
-use Rattle.walk.proofs.Outputs.{test-padded}
 use Rattle.walk.proofs.by_places.Statement.{statement}
 use Rattle.walk.proofs.by_places.Tie as tie
 
@@ -36,7 +33,7 @@ record Passed (s₁ s₂ : List ℕ) (g : Plan) (h : Span) (scratch₀ scratch v
   kept : drop (max (g .n1) (g .n2)) scratch ≡ drop (max (g .n1) (g .n2)) scratch₀
   within : p ≤ h .end
   full : length v ≡ maxInputs
-  vector : p < h .end → v ≡ padded (digitsAt (take (g .d) (g .axes)) p)
+  vector : p < h .end → v ≡ heldAt (g .lows) (take (g .d) (g .axes)) p
   same : first (outputsDiffer s₁ s₂) (h .from) (h .end - h .from) ≡ first (outputsDiffer s₁ s₂) p (h .end - p)
 
 module _
@@ -65,18 +62,21 @@ module _
             room = omega (arith, k .long, k .span .room, le-max-right (g .n1) (g .n2));
           }
 
-      placed : Placed (take (g .d) (g .axes)) v
+      placed : Placed (g .lows) (take (g .d) (g .axes)) v
       placed = record { place = p; inside = omega (arith, k .span .inside); shape = k .vector t }
+
+      held : v ≡ wordsAt s₁ p
+      held = k .vector t ∙ ap₂ (λ lows us. heldAt lows us p) (plan.lowest (k .span .planned)) (plan.grid (k .span .planned))
 
       on-grid : VectorOnGrid s₁ v
       on-grid i h =
-          rw (k .vector t, plan.grid (k .span .planned), padded-entry)
+          rw held
           (place-on-grid s₁ (k .span .planned .files .sound₁) p (omega (arith, ap size (plan.grid (k .span .planned)), k .span .inside)) i h)
 
       -- b is the outcome of the test at this place
-      module _ (b : Bool) (tested : b ≡ not (eqb (outputOf s₁ v) (outputOf s₂ v))) where
+      module _ (b : Bool) (tested : b ≡ not (eqb (wordOutput s₁ v) (wordOutput s₂ v))) where
         test : b ≡ outputsDiffer s₁ s₂ p
-        test = tested ∙ test-padded s₁ s₂ v p (k .span .planned .files .same) (k .vector t ∙ ap (λ us. padded (digitsAt us p)) (plan.grid (k .span .planned)))
+        test = tested ∙ ap (λ x. not (eqb (wordOutput s₁ x) (wordOutput s₂ x))) held ∙ output-test s₁ s₂ p (k .span .planned .files)
 
         found : b ≡ true → p ≡ first (outputsDiffer s₁ s₂) (r .from) (r .end - r .from)
         found e = sym (k .same ∙ first-here (outputsDiffer s₁ s₂) p (r .end - p) (sym test ∙ e))
@@ -84,7 +84,7 @@ module _
         more :
             (scratch' v' : List ℕ) → b ≡ false → length scratch' ≡ length scratch → drop (max (g .n1) (g .n2)) scratch' ≡ drop (max (g .n1) (g .n2)) scratch →
             length v' ≡ maxInputs →
-            ((q : ℕ) → q + 1 < size (take (g .d) (g .axes)) → v ≡ padded (digitsAt (take (g .d) (g .axes)) q) → v' ≡ padded (digitsAt (take (g .d) (g .axes)) (q + 1))) →
+            Next (g .lows) (take (g .d) (g .axes)) v v' →
             Passed s₁ s₂ g r scratch₀ scratch' v' (p + 1)
         more scratch' v' e l q w step =
             record {
@@ -98,10 +98,10 @@ module _
             }
 
 abbrev Inv-loop : tie.InvT-loop
-Inv-loop file1 file2 plan span scratch₀ axes v₀ p₀ scratch v p = Passed file1 file2 plan span scratch₀ scratch v p
+Inv-loop file1 file2 plan span scratch₀ axes lows v₀ p₀ scratch v p = Passed file1 file2 plan span scratch₀ scratch v p
 
 abbrev μ-loop : tie.MeasureT-loop
-μ-loop file1 file2 plan span scratch₀ axes v₀ p₀ scratch v p = span .end - p
+μ-loop file1 file2 plan span scratch₀ axes lows v₀ p₀ scratch v p = span .end - p
 
 -- the places: the loop's head and its test, from the comparison of a round
 abbrev head : tie.After-differ-at Inv-loop μ-loop → tie.At-loop Inv-loop μ-loop
@@ -112,19 +112,19 @@ tested c = c .before .before .before
 
 vector-at-requires : tie.Need-vector-at-requires Inv-loop μ-loop
 vector-at-requires c κs =
-    let k = c .before .before .before .before .pre in
+    let k = c .before .before .before .before .before .pre in
     (omega (arith, plan.inputs (k .planned), k .planned .files .sound₁ .inputsHigh), omega (arith, k .some, k .inside))
 
 loop-holds : tie.Need-loop-holds Inv-loop μ-loop
 loop-holds c =
-    let entry = c .before .before .before .before .before in
+    let entry = c .before .before .before .before .before .before in
     record {
       span = entry .pre;
       long = refl;
       kept = refl;
       within = omega (arith, entry .pre .some);
       full = search needs;
-      vector = λ h. c .vector-at .ensures;
+      vector = λ h. c .vector-at .ensures .words;
       same = refl;
     }
 

@@ -10,8 +10,7 @@ use borrow.Author.Tests.{lt-ltb, le-ltb, le-leb, lt-leb, ltb-true, ltb-false, no
 use Rattle.engine.specs.Engine.{outputsDiffer, largerCount}
 use Rattle.evaluate.specs.Evaluate.{shortScratch}
 use Rattle.fields.specs.File.{sizesOf}
-use Rattle.grid.specs.Grid.{axesOf, gridSize}
-use Rattle.places.specs.Places.{digitsAt}
+use Rattle.grid.specs.Grid.{gridSize, gridVector}
 use Rattle.ranges.specs.Search.{first}
 use Rattle.ranges.proofs.Search.{cond-each}
 use Rattle.sizes.specs.Sizes.{refusedBy, isRefusal}
@@ -30,7 +29,7 @@ handed σ a = record { session = σ; answer = a }
 -- what holds of an accepted call however it ends: with a difference, equivalent, or spent
 pub progress-each :
     (P : Continued → Type 0) (s₁ s₂ : List ℕ) (σ : Session) (B G q : ℕ) →
-    P (handed (movedTo σ (q + 1) Differ) (differsAnswer s₁ s₂ (digitsAt (axesOf (sizesOf s₁)) q) (q + 1 - σ .position))) →
+    P (handed (movedTo σ (q + 1) Differ) (differsAnswer s₁ s₂ (gridVector (sizesOf s₁) q) (q + 1 - σ .position))) →
     P (handed (movedTo σ G Equal) (plainAnswer Equivalent (G - σ .position))) →
     P (handed (movedTo σ (σ .position + B) Open) (plainAnswer Spent B)) →
     P (progress s₁ s₂ σ B G q)
@@ -47,7 +46,7 @@ module _ (s₁ s₂ : List ℕ) (σ : Session) (B G count q : ℕ) (g : G ≡ gr
 
   pub advanced-differs :
       q < σ .position + count →
-      handed (movedTo σ (q + 1) Differ) (differsAnswer s₁ s₂ (digitsAt (axesOf (sizesOf s₁)) q) (q + 1 - σ .position)) ≡ advanced s₁ s₂ σ B
+      handed (movedTo σ (q + 1) Differ) (differsAnswer s₁ s₂ (gridVector (sizesOf s₁) q) (q + 1 - σ .position)) ≡ advanced s₁ s₂ σ B
   unfolding progress
   advanced-differs l = rw (lt-ltb q (σ .position + min B (G - σ .position)) (omega (arith, n))) at by-place
 

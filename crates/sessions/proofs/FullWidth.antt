@@ -1,51 +1,49 @@
--- The vectors that evaluating takes are the full-width ones: entry by entry, each value is below its input's range. Assumes nothing.
-use mathlib.Core.List.{List, [], _∷_}
+-- The vectors that evaluating takes are the full-width ones, and each of these is given by its words. Assumes nothing.
+use mathlib.Core.List.{List, [], _∷_, map}
 use mathlib.Core.Path.{_≡_, refl, sym, _∙_, ap, subst}
-use Prim.Native.Nat.{ℕ, zero, suc, _<_}
+use Prim.Native.Nat.{ℕ, suc, _≤_}
 use native.Mathlib.Omega.{arith}
-use lib.ListN.{length, getD, length-map, length-take}
-use lib.Seq.{getD-take}
-use Rattle.bound.specs.Axes.{range, ranges}
+use lib.IntN.{ℤ}
+use lib.ListN.{length, length-map}
+use Rattle.evaluate.specs.Evaluate.{vectorOf}
 use Rattle.evaluate.specs.Taken.{FullVector}
+use Rattle.evaluate.proofs.Taken.{fullVectorWidth}
 use Rattle.fields.specs.File.{sizesOf}
-use Rattle.file.specs.Accepted.{Accepted}
-use Rattle.grid.specs.Grid.{widthsOf}
-use Rattle.places.proofs.LastAxis.{length-below}
 use Rattle.fields.proofs.Heads.{length-widths}
-use Rattle.vectors.proofs.Digits.{below-at, below-of}
+use Rattle.file.specs.Accepted.{Accepted}
+use Rattle.file.proofs.Sound.{file-ruled}
+use Rattle.formats.specs.Formats as Formats
+use Rattle.formats.specs.declared.Format.{Format}
+use Rattle.input_words.proofs.InputWords.{values-words}
+use Rattle.sizes.specs.Sizes.{formatsOf}
+use Rattle.sizes.specs.declared.Sizes.{Sizes}
+use Rattle.sizes.proofs.Formats.{length-formats}
+use Rattle.vectors.proofs.GridWords.{each-usable}
+use Rattle.words.specs.Words.{word}
 use Rattle.sessions.specs.Demand3.{FullWidth}
-use Rattle.sessions.specs.Taken.{FullWidthTaken}
+use Rattle.sessions.specs.Taken.{EachFullWidthTaken}
 
-ranges-at : (ns : List ℕ) (i : ℕ) → i < length ns → getD (ranges ns) i 0 ≡ range (getD ns i 0)
-ranges-at [] i l = absurd (omega arith)
-ranges-at (n ∷ ns) zero l = refl
-ranges-at (n ∷ ns) (suc i) l = ranges-at ns i (omega arith)
+full-length : (fs : List Format) (x : List ℤ) → Formats.FullWidth fs x → length x ≡ length fs
+full-length [] [] f = refl
+full-length [] (v ∷ x) f = absurd f
+full-length (g ∷ fs) [] f = absurd f
+full-length (g ∷ fs) (v ∷ x) f = ap suc (full-length fs x (f .1))
 
 module _ (s : List ℕ) (a : Accepted s) where
-  abbrev ns : List ℕ
-  ns = widthsOf (sizesOf s)
+  abbrev z : Sizes
+  z = sizesOf s
 
-  count : length ns ≡ sizesOf s .d
-  count = rw length-take (omega (arith, length-widths s, a .inputsHigh))
+  known : z .d ≤ length (z .widths)
+  known = omega (arith, length-widths s, a .inputsHigh)
 
-  count-ranges : length (ranges ns) ≡ sizesOf s .d
-  count-ranges = rw length-map count
+  -- the words of a full-width vector give it
+  given : (x : List ℤ) → FullWidth s x → vectorOf z (map word x) ≡ x
+  given x f = values-words (formatsOf z) x (each-usable z (length-widths s) (file-ruled s a)) f
 
-  range-at : (i : ℕ) → i < sizesOf s .d → getD (ranges ns) i 0 ≡ range (getD (sizesOf s .widths) i 0)
-  range-at i l = ranges-at ns i (omega (arith, count)) ∙ ap range (getD-take (sizesOf s .d) (sizesOf s .widths) i 0 l)
+  each : (x : List ℤ) → FullWidth s x → FullVector z (map word x) × (vectorOf z (map word x) ≡ x)
+  each x f =
+      let count = length-map x word ∙ full-length (formatsOf z) x f ∙ length-formats z known in
+      (fullVectorWidth z (map word x) known count .1 (subst (Formats.FullWidth (formatsOf z)) (sym (given x f)) f), given x f)
 
-  full-at : (x : List ℕ) → FullVector (sizesOf s) x → (i : ℕ) → i < sizesOf s .d → getD x i 0 < getD (ranges ns) i 0
-  full-at x f i l = subst (λ u. getD x i 0 < u) (sym (range-at i l)) (f .inside i l)
-
-  full : (x : List ℕ) → FullVector (sizesOf s) x → FullWidth s x
-  full x f = below-of (ranges ns) x (f .count ∙ sym count-ranges) (λ i l. full-at x f i (omega (arith, l, count-ranges)))
-
-  taken : (x : List ℕ) → FullWidth s x → FullVector (sizesOf s) x
-  taken x b =
-      record {
-        count = length-below (ranges ns) x b ∙ count-ranges;
-        inside = λ i l. subst (λ u. getD x i 0 < u) (range-at i l) (below-at (ranges ns) x i b (omega (arith, l, count-ranges)));
-      }
-
-pub fullWidthTaken : FullWidthTaken
-fullWidthTaken s x a = (full s a x, taken s a x)
+pub eachFullWidthTaken : EachFullWidthTaken
+eachFullWidthTaken s a = record { taken = λ ws l. fullVectorWidth (sizesOf s) ws (known s a) l; each = each s a }

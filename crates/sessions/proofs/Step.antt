@@ -15,8 +15,7 @@ use lib.Dec.{ltb}
 use borrow.Author.Tests.{lt-ltb, le-ltb, le-leb, lt-leb, eq-eqb, ne-eqb}
 use Rattle.engine.specs.Engine.{outputsDiffer, largerCount}
 use Rattle.fields.specs.File.{sizesOf}
-use Rattle.grid.specs.Grid.{axesOf, gridSize}
-use Rattle.places.specs.Places.{digitsAt}
+use Rattle.grid.specs.Grid.{gridSize, gridVector}
 use Rattle.ranges.specs.Search.{first}
 use Rattle.ranges.proofs.Search.{first-most, first-found, first-before, first-unique, first-absent, true-or-false}
 use Rattle.sizes.specs.Sizes.{accepted, isRefusal}
@@ -89,7 +88,7 @@ module _ (f₁ f₂ : List ℕ) where
 
   -- the answer a that gives the verdict, after n vectors
   pub data Verdict (a : Answer) : Type 0 where
-    differs : (n : ℕ) → place < G → a ≡ differsAnswer f₁ f₂ (digitsAt (axesOf (sizesOf f₁)) place) n → Verdict a
+    differs : (n : ℕ) → place < G → a ≡ differsAnswer f₁ f₂ (gridVector (sizesOf f₁) place) n → Verdict a
     equivalent : (n : ℕ) → G ≤ place → a ≡ plainAnswer Equivalent n → Verdict a
 
   -- what comes of a call that is answered r, of whose budget n is accepted
@@ -249,7 +248,7 @@ module _ (f₁ f₂ : List ℕ) where
             continued f₁ f₂ σ B len ≡
             record {
               session = record { sizes = σ .sizes; position = place + 1; mark = Differ };
-              answer = differsAnswer f₁ f₂ (digitsAt (axesOf (sizesOf f₁)) place) (place + 1 - S);
+              answer = differsAnswer f₁ f₂ (gridVector (sizesOf f₁) place) (place + 1 - S);
             }
         unfolding progress
         differs-call p h =

@@ -5,20 +5,24 @@ use mathlib.Core.Path.{_≡_, refl, ap, subst}
 use mathlib.Core.Bool.{false}
 use mathlib.Core.Logic.{_↔_, inl, inr}
 use mathlib.Core.List.{List}
-use Prim.Native.Nat.{ℕ, _<_, _≤_}
+use Prim.Native.Nat.{ℕ, _-_, _<_, _≤_}
 use native.Mathlib.Omega.{arith}
+use lib.IntN.{ℤ}
 use Rattle.evaluate.specs.Evaluate.{outputOf}
 use Rattle.file.specs.Accepted.{Accepted}
 use Rattle.fields.specs.File.{sizesOf}
 use Rattle.fields.specs.Steps.{stepsOf}
-use Rattle.grid.specs.Grid.{widthsOf, axesOf, gridSize}
+use Rattle.fields.proofs.Heads.{length-widths}
+use Rattle.file.proofs.Sound.{file-ruled}
+use Rattle.formats.specs.declared.Format.{Format}
+use Rattle.grid.specs.Grid.{axesOf, lowsOf, gridSize, gridVector}
 use Rattle.plan.proofs.Axes.{file-grid-least}
-use Rattle.places.specs.Places.{digitsAt}
-use Rattle.sizes.specs.Sizes.{isRefusal}
+use Rattle.sizes.specs.Sizes.{formatsOf, isRefusal}
 use Rattle.sizes.specs.declared.Sizes.{Sizes}
 use Rattle.grid_theorem.specs.Comparison.{Agree, IsFirst}
 use Rattle.grid_theorem.specs.Statement.{OnGrid}
 use Rattle.grid_theorem.proofs.Grid.{gridTheorem}
+use Rattle.vectors.proofs.GridWords.{eachGridWords}
 use Rattle.sessions.specs.Calls.{IsVerdict}
 use Rattle.sessions.specs.Demand3.{firstPlace, stop, FullWidth, stopVector, StopInRange, Settled, MarkOf}
 use Rattle.sessions.specs.Session.{pairRefusal, plainAnswer, differsAnswer}
@@ -43,8 +47,8 @@ module _ (f₁ f₂ : List ℕ) (pair : isRefusal (pairRefusal f₁ f₂) ≡ fa
   abbrev m : ℕ
   m = sizesOf f₁ .m
 
-  abbrev widths : List ℕ
-  widths = widthsOf (sizesOf f₁)
+  abbrev fs : List Format
+  fs = formatsOf (sizesOf f₁)
 
   abbrev place : ℕ
   place = firstPlace f₁ f₂
@@ -56,28 +60,28 @@ module _ (f₁ f₂ : List ℕ) (pair : isRefusal (pairRefusal f₁ f₂) ≡ fa
   pub stopped : StopInRange f₁ f₂
   stopped = let r = stop-range f₁ f₂ in record { low = r .1 (file-grid-least f₁ (told .0)); high = r .0 }
 
-  onGrid : OnGrid m widths (stepsOf f₁) (stepsOf f₂)
-  onGrid = gridTheorem m widths (stepsOf f₁) (stepsOf f₂)
+  onGrid : OnGrid m fs (stepsOf f₁) (stepsOf f₂)
+  onGrid = gridTheorem m fs (stepsOf f₁) (stepsOf f₂)
 
   -- the files' outputs are equal where the theorem's are
-  same-outputs : (x : List ℕ) → (outputOf f₁ x ≡ outputOf f₂ x) ↔ Agree m (stepsOf f₁) (stepsOf f₂) x
+  same-outputs : (x : List ℤ) → (outputOf f₁ x ≡ outputOf f₂ x) ↔ Agree m (stepsOf f₁) (stepsOf f₂) x
   unfolding outputOf
   same-outputs x = rw (← told .1) ((λ e. e), (λ e. e))
 
   -- no place of the grid differs
-  all-equal : gridSize (sizesOf f₁) ≤ place → (x : List ℕ) → FullWidth f₁ x → outputOf f₁ x ≡ outputOf f₂ x
-  unfolding gridSize axesOf firstPlace
+  all-equal : gridSize (sizesOf f₁) ≤ place → (x : List ℤ) → FullWidth f₁ x → outputOf f₁ x ≡ outputOf f₂ x
+  unfolding gridSize axesOf lowsOf firstPlace
   all-equal p x b =
       let none : place ≡ gridSize (sizesOf f₁) = omega (arith, place-most f₁ f₂) in
       same-outputs x .1 (onGrid .none none x b)
 
   -- some place does
-  at-stop : place < gridSize (sizesOf f₁) → digitsAt (axesOf (sizesOf f₁)) place ≡ stopVector f₁ f₂
-  at-stop p = ap (digitsAt (axesOf (sizesOf f₁))) (omega (arith, stop-differs f₁ f₂ p))
+  at-stop : place < gridSize (sizesOf f₁) → gridVector (sizesOf f₁) place ≡ stopVector f₁ f₂
+  at-stop p = ap (gridVector (sizesOf f₁)) (omega (arith, stop-differs f₁ f₂ p))
 
-  first-differs : place < gridSize (sizesOf f₁) → IsFirst m widths (stepsOf f₁) (stepsOf f₂) (stopVector f₁ f₂)
-  unfolding gridSize axesOf firstPlace
-  first-differs p = subst (IsFirst m widths (stepsOf f₁) (stepsOf f₂)) (at-stop p) (onGrid .some p .1)
+  first-differs : place < gridSize (sizesOf f₁) → IsFirst m fs (stepsOf f₁) (stepsOf f₂) (stopVector f₁ f₂)
+  unfolding gridSize gridVector axesOf lowsOf firstPlace
+  first-differs p = subst (IsFirst m fs (stepsOf f₁) (stepsOf f₂)) (at-stop p) (onGrid .some p .1)
 
   pub settled : (a : Answer) → Verdict f₁ f₂ a → Settled f₁ f₂ a
   unfolding plainAnswer differsAnswer
@@ -95,5 +99,8 @@ module _ (f₁ f₂ : List ℕ) (pair : isRefusal (pairRefusal f₁ f₂) ≡ fa
           λ d. absurd (let q : _≡_ {A = ℕ} 0 1 = cc in omega arith),
           λ all. absurd (first .differs (same-outputs _ .0 (all (stopVector f₁ f₂) (first .fullWidth)))),
         );
-        differs = λ _. record { place = omega (arith, stop-differs f₁ f₂ p); first = first; vector = refl; output₁ = refl; output₂ = refl };
+        differs = λ _.
+            let place : stop f₁ f₂ - 1 < gridSize (sizesOf f₁) = omega (arith, stop-differs f₁ f₂ p) in
+            let words = eachGridWords (sizesOf f₁) (length-widths f₁) (file-ruled f₁ (told .0)) (stop f₁ f₂ - 1) place in
+            record { place = place; first = first; integers = words .integers; vector = refl; output₁ = refl; output₂ = refl };
       })

@@ -14,23 +14,26 @@
 --   Settled f₁ f₂ a      of the verdict: it is equivalent exactly where the outputs are equal at every full-width vector; if it is differs,
 --                        it shows the first difference
 --   ShowsFirst f₁ f₂ a   place D − 1 is below G; the grid's vector there is the first of all full-width vectors at which the outputs differ;
---                        the answer shows it, and the two files' outputs there
+--                        the answer's words give this vector, and are its words with 0 past the last input; it shows the two files' outputs
+--                        there
 use mathlib.Core.Path.{_≡_}
 use mathlib.Core.Bool.{cond}
 use mathlib.Core.Logic.{_⊎_, _↔_}
-use mathlib.Core.List.{List, [], _∷_, _++_}
+use mathlib.Core.List.{List, [], _∷_, _++_, map}
 use Prim.Native.Nat.{ℕ, _+_, _-_, _<_, _≤_, min}
 use lib.Dec.{ltb}
-use Rattle.bound.specs.Axes.{ranges}
+use lib.IntN.{ℤ}
 use Rattle.engine.specs.Engine.{largerCount}
-use Rattle.evaluate.specs.Evaluate.{outputOf}
+use Rattle.evaluate.specs.Evaluate.{outputOf, vectorOf}
 use Rattle.fields.specs.File.{sizesOf}
 use Rattle.fields.specs.Steps.{stepsOf}
-use Rattle.grid.specs.Grid.{widthsOf, axesOf, gridSize}
-use Rattle.places.specs.Places.{Below, digitsAt}
+use Rattle.formats.specs.Formats as Formats
+use Rattle.grid.specs.Grid.{axesOf, lowsOf, gridSize, gridVector}
 use Rattle.grid_theorem.specs.Comparison.{firstDifference, IsFirst}
 use Rattle.sessions.specs.Calls.{Call, answerTo, sessionAfter, answers, IsRefused, IsVerdict, budgets, vectorsRun, Each}
 use Rattle.sizes.specs.Padded.{padded}
+use Rattle.sizes.specs.Sizes.{formatsOf}
+use Rattle.words.specs.Words.{word}
 use Rattle.sessions.specs.Session.{opened}
 use Rattle.sessions.specs.declared.Answer.{Answer}
 use Rattle.sessions.specs.declared.Mark.{Mark}
@@ -48,18 +51,19 @@ Allowed f₁ f₂ σ (c ∷ cs) = (OwnFiles f₁ f₂ c ⊎ IsRefused (answerTo 
 
 -- the place of the first grid vector at which the outputs differ, or G
 unfoldable pub firstPlace : List ℕ → List ℕ → ℕ
-firstPlace f₁ f₂ = firstDifference (sizesOf f₁ .m) (axesOf (sizesOf f₁)) (stepsOf f₁) (stepsOf f₂)
+firstPlace f₁ f₂ =
+    firstDifference (sizesOf f₁ .m) (lowsOf (sizesOf f₁)) (axesOf (sizesOf f₁)) (stepsOf f₁) (stepsOf f₂)
 
 unfoldable pub stop : List ℕ → List ℕ → ℕ
 stop f₁ f₂ = cond (ltb (firstPlace f₁ f₂) (gridSize (sizesOf f₁))) (firstPlace f₁ f₂ + 1) (gridSize (sizesOf f₁))
 
 -- x is a full-width vector of the files, whose sizes are the same
-abbrev pub FullWidth : List ℕ → List ℕ → Type 0
-FullWidth f₁ x = Below (ranges (widthsOf (sizesOf f₁))) x
+abbrev pub FullWidth : List ℕ → List ℤ → Type 0
+FullWidth f₁ x = Formats.FullWidth (formatsOf (sizesOf f₁)) x
 
 -- the grid's vector at place D − 1
-abbrev pub stopVector : List ℕ → List ℕ → List ℕ
-stopVector f₁ f₂ = digitsAt (axesOf (sizesOf f₁)) (stop f₁ f₂ - 1)
+abbrev pub stopVector : List ℕ → List ℕ → List ℤ
+stopVector f₁ f₂ = gridVector (sizesOf f₁) (stop f₁ f₂ - 1)
 
 pub record StopInRange (f₁ f₂ : List ℕ) : Type 0 where
   pub low : 1 ≤ stop f₁ f₂
@@ -67,13 +71,14 @@ pub record StopInRange (f₁ f₂ : List ℕ) : Type 0 where
 
 pub record ShowsFirst (f₁ f₂ : List ℕ) (a : Answer) : Type 0 where
   pub place : stop f₁ f₂ - 1 < gridSize (sizesOf f₁)
-  pub first : IsFirst (sizesOf f₁ .m) (widthsOf (sizesOf f₁)) (stepsOf f₁) (stepsOf f₂) (stopVector f₁ f₂)
-  pub vector : a .vector ≡ padded (stopVector f₁ f₂)
+  pub first : IsFirst (sizesOf f₁ .m) (formatsOf (sizesOf f₁)) (stepsOf f₁) (stepsOf f₂) (stopVector f₁ f₂)
+  pub integers : vectorOf (sizesOf f₁) (a .vector) ≡ stopVector f₁ f₂
+  pub vector : a .vector ≡ padded (map word (stopVector f₁ f₂))
   pub output₁ : a .output1 ≡ outputOf f₁ (stopVector f₁ f₂)
   pub output₂ : a .output2 ≡ outputOf f₂ (stopVector f₁ f₂)
 
 pub record Settled (f₁ f₂ : List ℕ) (a : Answer) : Type 0 where
-  pub equivalent : (a .kind ≡ Equivalent) ↔ ((x : List ℕ) → FullWidth f₁ x → outputOf f₁ x ≡ outputOf f₂ x)
+  pub equivalent : (a .kind ≡ Equivalent) ↔ ((x : List ℤ) → FullWidth f₁ x → outputOf f₁ x ≡ outputOf f₂ x)
   pub differs : a .kind ≡ Differs → ShowsFirst f₁ f₂ a
 
 -- the mark is the verdict's: equal after equivalent, differ after differs

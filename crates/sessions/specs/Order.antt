@@ -3,7 +3,7 @@
 --   OpenOrder s₁ s₂ r       r is what opening is refused by:
 --     file₁     file 1 is not accepted: by what it is refused by
 --     file₂     file 1 is accepted, and file 2 is not: by what this is refused by
---     sizes     both are accepted, and differ in m, d or a word length: by 9
+--     sizes     both are accepted, and differ in m, d or a width byte: by 9
 --   OpenInOrder             so opening judges
 --   ContinueOrder s₁ s₂ σ B len r   r is what continuing is refused by:
 --     budget            the budget is 0: by 11
@@ -15,7 +15,7 @@
 --     differ-outside    else, it is marked differ and its position is not 1 to G: by 102
 --     closed-equal      else, it is marked equal: by 103
 --     closed-differ     else, it is marked differ: by 103
---   ContinueInOrder         so continuing judges, of sessions with a word length for each input that a file may have
+--   ContinueInOrder         so continuing judges, of sessions with a width byte for each input that a file may have
 --   AnswerCarries           a continue call's answer carries what it is refused by, or acceptance
 use mathlib.Core.List.{List}
 use mathlib.Core.Path.{_≡_}

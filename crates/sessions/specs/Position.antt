@@ -13,8 +13,7 @@ use mathlib.Core.Path.{_≡_}
 use Prim.Native.Nat.{ℕ, _+_, _-_, _≤_, _<_}
 use Rattle.engine.specs.Engine.{outputsDiffer}
 use Rattle.fields.specs.File.{sizesOf}
-use Rattle.grid.specs.Grid.{axesOf, gridSize}
-use Rattle.places.specs.Places.{digitsAt}
+use Rattle.grid.specs.Grid.{gridSize, gridVector}
 use Rattle.sessions.specs.Session.{plainAnswer, differsAnswer, movedTo, advanced}
 use Rattle.sessions.specs.declared.Kind.the-variants.{Spent, Equivalent}
 use Rattle.sessions.specs.declared.Mark.the-variants.{Open, Equal, Differ}
@@ -30,7 +29,7 @@ pub record FromPosition (s₁ s₂ : List ℕ) (σ : Session) (B : ℕ) : Type 0
       advanced s₁ s₂ σ B ≡
       record {
         session = movedTo σ (q + 1) Differ;
-        answer = differsAnswer s₁ s₂ (digitsAt (axesOf (sizesOf s₁)) q) (q + 1 - σ .position);
+        answer = differsAnswer s₁ s₂ (gridVector (sizesOf s₁) q) (q + 1 - σ .position);
       }
   pub equivalent :
       AgreeFrom s₁ s₂ (σ .position) (gridSize (sizesOf s₁)) → gridSize (sizesOf s₁) ≤ σ .position + B →

@@ -1,5 +1,5 @@
 -- Opening and continuing a session (document 01, 'Sessions' and 'Refused because of the state').
---   sameSizes z w          m, d and all word lengths are the same
+--   sameSizes z w          m, d and all width bytes are the same
 --   pairRefusal s₁ s₂      what both calls judge of two files: file 1, file 2, 9
 --   opened s₁ s₂           what opening answers
 --   misplaced G p mark     102. the position doesn't fit the mark
@@ -11,22 +11,23 @@
 --   continued              what continuing answers: the session handed back and the answer
 --   continuedScratch       the scratch slice after a continue call
 use mathlib.Core.Bool.{Bool, true, false, not, cond, _&&_}
-use mathlib.Core.List.{List}
+use mathlib.Core.List.{List, map}
 use Prim.Native.Nat.{ℕ, _+_, _-_, min}
 use lib.Dec.{leb, ltb, eqb}
+use lib.IntN.{ℤ}
 use lib.ListN.{length, getD, replicate}
 use Rattle.engine.specs.Engine.{outputsDiffer, largerCount}
 use Rattle.evaluate.specs.Evaluate.{outputOf, shortScratch}
 use Rattle.file.specs.Check.{fileNumber, refusalOf}
 use Rattle.fields.specs.File.{sizesOf}
-use Rattle.grid.specs.Grid.{axesOf, gridSize}
-use Rattle.places.specs.Places.{digitsAt}
+use Rattle.grid.specs.Grid.{gridSize, gridVector}
 use Rattle.ranges.specs.Search.{first, every}
 use Rattle.sizes.specs.Sizes.{maxInputs, within, refusedBy, accepted, isRefusal}
 use Rattle.sizes.specs.declared.Refusal.{Refusal}
 use Rattle.sizes.specs.declared.Sizes.{Sizes}
 use Rattle.slices.specs.Slices.{cleared}
 use Rattle.sizes.specs.Padded.{padded}
+use Rattle.words.specs.Words.{word}
 use Rattle.sessions.specs.declared.Answer.{Answer}
 use Rattle.sessions.specs.declared.Continued.{Continued}
 use Rattle.sessions.specs.declared.Mark.{Mark}
@@ -72,7 +73,7 @@ isClosed Open = false
 isClosed Equal = true
 isClosed Differ = true
 
--- 101. the session's m, d or word lengths are not the files', which are z. 102, on a grid of G vectors. 103. the mark is not open
+-- 101. the session's m, d or width bytes are not the files', which are z. 102, on a grid of G vectors. 103. the mark is not open
 unfoldable pub stateRefusal : Sizes → ℕ → Session → Refusal
 stateRefusal z G σ =
     cond (not (sameSizes (σ .sizes) z)) (refusedBy 101)
@@ -103,10 +104,17 @@ unfoldable pub plainAnswer : Kind → ℕ → Answer
 plainAnswer o n =
     record { refusal = accepted; kind = o; run = n; vector = replicate maxInputs 0; output1 = 0; output2 = 0 }
 
--- the answer that shows the vector x with both outputs, after n vectors
-unfoldable pub differsAnswer : List ℕ → List ℕ → List ℕ → ℕ → Answer
+-- the answer that shows the vector x, as words, with both outputs, after n vectors
+unfoldable pub differsAnswer : List ℕ → List ℕ → List ℤ → ℕ → Answer
 differsAnswer s₁ s₂ x n =
-    record { refusal = accepted; kind = Differs; run = n; vector = padded x; output1 = outputOf s₁ x; output2 = outputOf s₂ x }
+    record {
+      refusal = accepted;
+      kind = Differs;
+      run = n;
+      vector = padded (map word x);
+      output1 = outputOf s₁ x;
+      output2 = outputOf s₂ x;
+    }
 
 -- the session σ at another position and under another mark
 abbrev pub movedTo : Session → ℕ → Mark → Session
@@ -119,7 +127,7 @@ progress s₁ s₂ σ B G q =
     cond (ltb q (σ .position + min B (G - σ .position)))
     (record {
       session = movedTo σ (q + 1) Differ;
-      answer = differsAnswer s₁ s₂ (digitsAt (axesOf (sizesOf s₁)) q) (q + 1 - σ .position);
+      answer = differsAnswer s₁ s₂ (gridVector (sizesOf s₁) q) (q + 1 - σ .position);
     })
     (cond (leb G (σ .position + B))
     (record { session = movedTo σ G Equal; answer = plainAnswer Equivalent (G - σ .position) })

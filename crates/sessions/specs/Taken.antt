@@ -1,7 +1,9 @@
 -- Which calls opening and continuing take, as orders and equations, with no test in them. Each statement is proved in proofs/Taken, but for
--- FullWidthTaken, which is in proofs/FullWidth.
+-- EachFullWidthTaken, which is in proofs/FullWidth.
 --   OpenExactly       opening answers the number 0 exactly where both files are accepted and have the same sizes
---   FullWidthTaken    of an accepted file, evaluating takes just the full-width vectors, of which demand 3 speaks
+--   FullWidthTaken s  of an accepted file s, evaluating takes just the full-width vectors, of which demand 3 speaks:
+--     taken       d words are taken exactly where they give a full-width vector
+--     each        the words of every full-width vector are taken, and give it
 --   CallTaken s₁ s₂ B len   what a continue call asks of all but its session:
 --     budget      the budget is not 0
 --     files       both files are accepted, and have the same sizes
@@ -11,18 +13,21 @@
 --     sizes       the session's sizes are the files'
 --     mark        it is open
 --     position    its position is below G
---   ContinueExactly   continuing answers the number 0 exactly there, of sessions with a word length for each input that a file may have
-use mathlib.Core.List.{List}
+--   ContinueExactly   continuing answers the number 0 exactly there, of sessions with a width byte for each input that a file may have
+use mathlib.Core.List.{List, map}
 use mathlib.Core.Logic.{_↔_}
 use mathlib.Core.Path.{_≡_}
 use Prim.Native.Nat.{ℕ, _≤_, _<_}
+use lib.IntN.{ℤ}
 use lib.ListN.{length}
 use Rattle.engine.specs.Engine.{largerCount, Comparable}
+use Rattle.evaluate.specs.Evaluate.{vectorOf}
 use Rattle.evaluate.specs.Taken.{FullVector}
 use Rattle.fields.specs.File.{sizesOf}
 use Rattle.file.specs.Accepted.{Accepted}
 use Rattle.grid.specs.Grid.{gridSize}
 use Rattle.sizes.specs.Sizes.{maxInputs}
+use Rattle.words.specs.Words.{word}
 use Rattle.sessions.specs.Demand3.{FullWidth}
 use Rattle.sessions.specs.Session.{opened, continued}
 use Rattle.sessions.specs.declared.Mark.the-variants.{Open}
@@ -31,8 +36,14 @@ use Rattle.sessions.specs.declared.Session.{Session}
 abbrev pub OpenExactly : Type 0
 OpenExactly = (s₁ s₂ : List ℕ) → (opened s₁ s₂ .refusal .number ≡ 0) ↔ Comparable s₁ s₂
 
-abbrev pub FullWidthTaken : Type 0
-FullWidthTaken = (s x : List ℕ) → Accepted s → FullVector (sizesOf s) x ↔ FullWidth s x
+pub record FullWidthTaken (s : List ℕ) : Type 0 where
+  pub taken :
+      (ws : List ℕ) → length ws ≡ sizesOf s .d → FullVector (sizesOf s) ws ↔ FullWidth s (vectorOf (sizesOf s) ws)
+  pub each :
+      (x : List ℤ) → FullWidth s x → FullVector (sizesOf s) (map word x) × (vectorOf (sizesOf s) (map word x) ≡ x)
+
+abbrev pub EachFullWidthTaken : Type 0
+EachFullWidthTaken = (s : List ℕ) → Accepted s → FullWidthTaken s
 
 pub record CallTaken (s₁ s₂ : List ℕ) (B len : ℕ) : Type 0 where
   pub budget : 1 ≤ B

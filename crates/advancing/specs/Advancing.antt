@@ -9,8 +9,7 @@ use mathlib.Core.List.{List}
 use mathlib.Core.Path.{_≡_}
 use Prim.Native.Nat.{ℕ, max}
 use Rattle.fields.specs.File.{sizesOf}
-use Rattle.grid.specs.Grid.{axesOf}
-use Rattle.places.specs.Places.{digitsAt}
+use Rattle.grid.specs.Grid.{gridVector}
 use Rattle.plan.specs.declared.Plan.{Plan}
 use Rattle.sessions.specs.Session.{differsAnswer, advanced}
 use Rattle.sessions.specs.declared.Answer.{Answer}
@@ -19,7 +18,7 @@ use Rattle.sessions.specs.declared.Session.{Session}
 use Rattle.slices.specs.Slices.{KeptPast}
 
 pub record DifferenceShown (s₁ s₂ : List ℕ) (p : Plan) (q n : ℕ) (before : List ℕ) (r : Answer) (after : List ℕ) : Type 0 where
-  pub answer : r ≡ differsAnswer s₁ s₂ (digitsAt (axesOf (sizesOf s₁)) q) n
+  pub answer : r ≡ differsAnswer s₁ s₂ (gridVector (sizesOf s₁) q) n
   pub kept : KeptPast (max (p .n1) (p .n2)) before after
 
 pub record Advanced (s₁ s₂ : List ℕ) (p : Plan) (σ : Session) (B : ℕ) (before : List ℕ) (r : Continued) (after : List ℕ) : Type 0 where

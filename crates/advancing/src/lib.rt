@@ -56,7 +56,8 @@ fn differs_answer(
         ⌝ }
 {
     let axes = plan.axes;
-    let vector = vector_at(axes, plan.d, place);
+    let lows = plan.lows;
+    let vector = vector_at(axes, lows, plan.d, place);
     let output1 = output_at(file1, plan.n1, &vector, scratch);
     let output2 = output_at(file2, plan.n2, &vector, scratch);
     Answer {

@@ -1,28 +1,33 @@
 -- `advancing::differs_answer` meets its contract: the vector at the place, and the two outputs there. Each evaluation leaves the entries past its own
 -- count.
 -- Assumes nothing.
-use mathlib.Core.Path.{_∙_, ap}
+use mathlib.Core.List.{map}
+use mathlib.Core.Path.{sym, _∙_, ap}
 use native.Mathlib.Nat.{le-max-left, le-max-right}
 use native.Mathlib.Omega.{arith}
 use borrow.Author.Needs.{needs}
 use denote.Ref.{now}
-use Rattle.evaluate.specs.Evaluate.{outputOf}
+use lib.ListN.{length}
+use Rattle.evaluate.specs.Run.{wordOutput}
+use Rattle.evaluate.proofs.Words.{padded-output}
 use Rattle.fields.specs.File.{sizesOf}
-use Rattle.grid.specs.Grid.{axesOf, gridSize}
+use Rattle.grid.specs.Grid.{lowsOf, gridSize, gridVector}
+use Rattle.grid.proofs.Grids.{length-lows}
 use Rattle.lists.proofs.Lists.{drop-later}
-use Rattle.places.specs.Places.{digitsAt}
+use Rattle.places.specs.Vectors.{vectorAt}
 use Rattle.plan.proofs.Numbers as plan
 use Rattle.sessions.specs.Session.{differsAnswer}
 use Rattle.sessions.specs.declared.Kind.the-variants.{Differs}
 use Rattle.sizes.specs.Padded.{padded}
-use Rattle.walk.proofs.Outputs.{output-padded}
+use Rattle.vectors.specs.Vectors.{lowWords}
+use Rattle.words.specs.Words.{word}
 use Rattle.advancing.proofs.differs_answer.Statement.{statement}
 use Rattle.advancing.proofs.differs_answer.Tie as tie
 
 vector-at-requires : tie.Need-vector-at-requires
 unfolding gridSize
 vector-at-requires c κs =
-    let q = c .before .before .before .before .pre in
+    let q = c .before .before .before .before .before .pre in
     let k = q .0 in
     (omega (arith, plan.inputs k, k .files .sound₁ .inputsHigh), rw (plan.grid k) (rw (plan.vectors k) at (q .1 .0)))
 
@@ -31,7 +36,7 @@ slice-aggregate-output-at c = search needs
 
 output-at-requires : tie.Need-output-at-requires
 output-at-requires c κs =
-    let e = c .before .before .before .before .before .before .before in
+    let e = c .before .before .before .before .before .before .before .before in
     let k = e .pre .0 in
     record {
       sound = k .files .sound₁;
@@ -45,7 +50,7 @@ slice-aggregate-output-at-2 c = search needs
 
 output-at-requires-2 : tie.Need-output-at-requires-2
 output-at-requires-2 c κs =
-    let e = c .before .before .before .before .before .before .before .before .before .before .before .before in
+    let e = c .before .before .before .before .before .before .before .before .before .before .before .before .before in
     let k = e .pre .0 in
     record {
       sound = k .files .sound₂;
@@ -61,18 +66,23 @@ same-length : tie.Need-same-length
 same-length c = search needs
 
 returns : tie.Need-returns
-unfolding differsAnswer
+unfolding differsAnswer gridVector lowWords
 returns c =
-    let e = c .before .before .before .before .before .before .before .before .before .before .before .before .before .before .before .before in
+    let e = c .before .before .before .before .before .before .before .before .before .before .before .before .before .before .before .before .before in
     let a = e .args in
     let s₁ = now (a .file1) in
     let s₂ = now (a .file2) in
-    let x = digitsAt (axesOf (sizesOf s₁)) (a .place) in
-    let v = c .before .before .before .before .before .before .before .before .before .before .before .vector-at .ensures ∙ ap (λ us. padded (digitsAt us (a .place))) (plan.grid (e .pre .0)) in
+    let k = e .pre .0 in
+    let z = sizesOf s₁ in
+    let x = gridVector z (a .place) in
+    let v =
+    c .before .before .before .before .before .before .before .before .before .before .before .vector-at .ensures .integers (lowsOf z)
+    (length-lows z ∙ sym (ap length (plan.grid k))) (plan.lowest k)
+    ∙ ap (λ axes. padded (map word (vectorAt (lowsOf z) axes (a .place)))) (plan.grid k) in
     let first = c .before .before .before .before .before .before .before .before .output-at .ensures in
     let second = c .before .before .before .output-at2 .ensures in
-    let o₁ = first .output ∙ ap (outputOf s₁) v ∙ output-padded s₁ x in
-    let o₂ = second .output ∙ ap (outputOf s₂) v ∙ output-padded s₂ x in
+    let o₁ = first .output ∙ ap (wordOutput s₁) v ∙ padded-output s₁ (k .files .sound₁) x in
+    let o₂ = second .output ∙ ap (wordOutput s₂) v ∙ padded-output s₂ (k .files .sound₂) x in
     record {
       answer = λ i. record { refusal = c .refused-by .ensures i; kind = Differs; run = a .run; vector = v i; output1 = o₁ i; output2 = o₂ i };
       kept =

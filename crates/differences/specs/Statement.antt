@@ -1,7 +1,8 @@
 -- What is claimed of difference tables and sums, for every modulus M above 0 and all axes. Each statement is proved in proofs/, under the
 -- same name with a small first letter.
 --   ClosedForm      one input: the p-fold difference at x is the alternating sum of document 002, formula (7)
---   SumOfTable      the table of a function, summed, is the function at every vector of the grid, modulo M
+--   AtLowest        the table on a grid with a lowest value for each axis is that of the function of counts from there
+--   SumOfTable      the table of a function, summed, is the function at every place of the grid, modulo M
 --   SumOfDifferences  for every list of outputs below M, summing its differences returns the outputs
 --   DifferencesOfSum  for every table of cells below M, differencing the summed outputs returns the table
 use mathlib.Core.Path.{_≡_}
@@ -12,7 +13,7 @@ use lib.ListN.{length, getD}
 use Rattle.integers.specs.Modulo.{remainder}
 use Rattle.newton.specs.Difference.{differences}
 use Rattle.places.specs.Places.{size}
-use Rattle.differences.specs.Table.{choose, listed, tableOf, given, summed}
+use Rattle.differences.specs.Table.{choose, listed, fromLowest, tableAt, tableOf, given, summed}
 
 -- (−1)^k
 unfoldable pub sign : ℕ → ℤ
@@ -28,6 +29,11 @@ abbrev pub ClosedForm : Type 0
 ClosedForm =
     (f : ℕ → ℤ) (p x : ℕ) →
     differences p f x ≡ total (λ (k : ℕ). sign k *ℤ (pos (choose p k) *ℤ f (p - k + x))) (suc p)
+
+abbrev pub AtLowest : Type 0
+AtLowest =
+    (M : ℕ) (los : List ℤ) (us : List ℕ) (F : List ℤ → ℤ) → length los ≡ length us →
+    tableAt M los us F ≡ tableOf M us (fromLowest los F)
 
 abbrev pub SumOfTable : Type 0
 SumOfTable =

@@ -1,20 +1,34 @@
--- Difference tables over a grid with the axes us, and their sums (document 01, 'Output, grid and order'; document 002, definitions IV.1
--- and V.2, propositions 1 and 2). A function on vectors stands for a datapath's exact values or for a list of outputs.
---   mixedDifference ks F   the k-fold forward difference of F at the zero vector: the difference for each input in turn, k_i times
+-- Difference tables over a grid with the axes us, and their sums (document 01, 'Output, grid and order'; document 02, T-01; document 002,
+-- definitions IV.1 and V.2, propositions 1 and 2). A function on vectors stands for a datapath's exact values; counted from the lowest values,
+-- it or a list of outputs is a function of counts.
+--   differenceAt los ks F  the k-fold forward difference of F at the vector los: the difference for each input in turn, k_i times
+--   tableAt M los us F     the difference table of F on the grid with the lowest values los: cell k holds the k-fold difference at los, modulo M
+--   fromLowest los F       F as a function of the counts from the lowest values los
+--   mixedDifference ks F   the k-fold forward difference of such a function at the counts 0
 --   choose n k             the binomial (n choose k)
 --   binomials xs ks        the product of the binomials (x_i choose k_i)
---   listed us f            f at every vector of the grid, in the order of their places
---   tableOf M us F         the difference table of F: cell k holds the k-fold difference at the zero vector, modulo M
---   given us ys            the function on the grid whose values, in the order of the places, are ys
---   summed M us c          the sum of the table c at every vector x of the grid: each cell times its binomials, added, modulo M
+--   listed us f            f at the counts of every place of the grid, in order
+--   tableOf M us F         its difference table: cell k holds the k-fold difference at the counts 0, modulo M
+--   given us ys            the function of counts whose values, in the order of the places, are ys
+--   summed M us c          the sum of the table c at every place of the grid, with the counts x: each cell times its binomials, added, modulo M
 use mathlib.Core.List.{List, [], _∷_}
 use Prim.Native.Nat.{ℕ, zero, suc, _+_, _*_, _%_}
-use lib.IntN.{ℤ, pos}
+use lib.IntN.{ℤ, pos, _+ℤ_}
 use lib.ListN.{getD}
 use Rattle.integers.specs.Modulo.{remainder}
 use Rattle.lists.specs.Lists.{tabulate}
 use Rattle.newton.specs.Difference.{differences}
 use Rattle.places.specs.Places.{size, digitsAt, placeOf}
+use Rattle.places.specs.Vectors.{counted}
+
+unfoldable pub differenceAt : List ℤ → List ℕ → (List ℤ → ℤ) → ℤ
+differenceAt [] ks F = F []
+differenceAt (lo ∷ los) [] F = F []
+differenceAt (lo ∷ los) (k ∷ ks) F =
+    differences k (λ (t : ℕ). differenceAt los ks (λ (xs : List ℤ). F ((lo +ℤ pos t) ∷ xs))) 0
+
+abbrev pub fromLowest : {A : Type 0} → List ℤ → (List ℤ → A) → List ℕ → A
+fromLowest los F ts = F (counted los ts)
 
 unfoldable pub mixedDifference : List ℕ → (List ℕ → ℤ) → ℤ
 mixedDifference [] F = F []
@@ -36,6 +50,9 @@ listed us f = tabulate (λ (p : ℕ). f (digitsAt us p)) 0 (size us)
 
 unfoldable pub tableOf : ℕ → List ℕ → (List ℕ → ℤ) → List ℕ
 tableOf M us F = listed us (λ (k : List ℕ). remainder (mixedDifference k F) M)
+
+unfoldable pub tableAt : ℕ → List ℤ → List ℕ → (List ℤ → ℤ) → List ℕ
+tableAt M los us F = listed us (λ (k : List ℕ). remainder (differenceAt los k F) M)
 
 unfoldable pub given : List ℕ → List ℕ → List ℕ → ℤ
 given us ys x = pos (getD ys (placeOf us x) 0)

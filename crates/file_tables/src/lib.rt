@@ -11,6 +11,7 @@ use sizes::Sizes;
 use sizes::refused_by;
 use slices::clear;
 use transform::transform_front;
+use vectors::lowest_words;
 use vectors::next_vector;
 use vectors::vector_at;
 ghost use Rattle.file_tables.specs.FileTables.{TableMade};
@@ -23,23 +24,24 @@ fn fill_outputs(
     file: &[u8],
     n: usize,
     axes: [u64; INPUTS],
+    lows: [u64; INPUTS],
     d: usize,
     count: usize,
     scratch: &mut [u64],
     table: &mut [u64],
 )
-    requires { ⌜ Filling (now file) n axes d count (now scratch) (now table) ⌝ }
+    requires { ⌜ Filling (now file) n axes lows d count (now scratch) (now table) ⌝ }
     ensures { λ _. ⌜
-        OutputsFilled (now (file .entry)) n axes d count (now (scratch .entry)) (now (table .entry))
+        OutputsFilled (now (file .entry)) n count (now (scratch .entry)) (now (table .entry))
         (now (scratch .exit)) (now (table .exit))
         ⌝ }
 {
-    let mut v = vector_at(axes, d, 0);
+    let mut v = vector_at(axes, lows, d, 0);
     let mut p = 0;
     while p < count {
         let y = output_at(file, n, &v, scratch);
         table[p] = y;
-        v = next_vector(axes, d, v);
+        v = next_vector(axes, lows, d, v);
         p += 1;
     }
 }
@@ -56,14 +58,15 @@ fn fill_table(file: &[u8], n: usize, z: Sizes, g: Grid, scratch: &mut [u64], tab
     let d = z.d as usize;
     let m = z.m as u64;
     let axes = g.axes;
+    let lows = lowest_words(z);
     let cells = g.size as usize;
-    fill_outputs(file, n, axes, d, cells, scratch, table);
+    fill_outputs(file, n, axes, lows, d, cells, scratch, table);
     transform_front(table, axes, d, cells, m, false);
     clear(scratch, n);
 }
 
 // The difference table of a file. Of the table slice the first G entries become the table: cell k holds the k-fold
-// forward difference of the exact values at the zero vector, modulo 2^m, in dictionary order. Number 0: accepted, and
+// forward difference of the exact values at the lowest values, modulo 2^m, in dictionary order. Number 0: accepted, and
 // the first N scratch entries are zero afterwards. Otherwise refused under document 01's conditions 1 to 8, 12
 // and 13, in its order, with both slices untouched.
 pub fn make_table(file: &[u8], scratch: &mut [u64], table: &mut [u64]) -> Refusal

@@ -1,44 +1,47 @@
 -- `file_tables::fill_outputs` meets its contract. The loop's invariant: v holds the vector at place p while p is before the end, the outputs at the
 -- places passed are written, and the scratch entries past the first n are as at entry.
 -- Assumes nothing.
-use mathlib.Core.Path.{_≡_, refl, sym, _∙_, ap}
+use mathlib.Core.Path.{_≡_, refl, sym, _∙_, ap, ap₂}
 use mathlib.Core.List.{List, _++_}
 use Prim.Native.Nat.{ℕ, _+_, _-_, _≤_, _<_}
 use native.Mathlib.Omega.{arith}
 use borrow.Author.Needs.{needs}
 use lib.ListN.{length, getD, take, drop, set}
 use lib.Seq.{take-all}
-use Rattle.differences.specs.Table.{listed}
-use Rattle.lists.proofs.Tabulate.{length-tabulate, getD-tabulate}
+use Rattle.lists.proofs.Tabulate.{getD-tabulate}
 use Rattle.evaluate.specs.Evaluate.{outputOf}
-use Rattle.evaluate.proofs.Words.{output-entries}
-use Rattle.evaluate.specs.Run.{Ready}
-use Rattle.places.specs.Places.{size, digitsAt}
+use Rattle.evaluate.proofs.Words.{padded-output}
+use Rattle.evaluate.specs.Run.{wordOutput, Ready}
+use Rattle.fields.specs.File.{sizesOf}
+use Rattle.grid.specs.Grid.{axesOf, lowsOf, gridSize, gridVector}
+use Rattle.grid.proofs.Grids.{length-lows}
+use Rattle.places.specs.Places.{size}
 use Rattle.sizes.specs.Sizes.{maxInputs}
-use Rattle.sizes.specs.Padded.{padded}
-use Rattle.vectors.specs.Vectors.{Placed}
-use Rattle.sizes.proofs.Padded.{padded-entry}
+use Rattle.vectors.specs.Vectors.{lowWords, heldAt, Placed, Next}
+use Rattle.vectors.proofs.Raised.{held-integers}
+use Rattle.file_tables.specs.FileTables.{gridOutputs}
 use Rattle.file_tables.specs.Filling.{Filling}
+use Rattle.file_tables.proofs.Files.{length-outputs}
 use Rattle.slices.specs.Slices.{KeptPast}
 use Rattle.slices.proofs.Copied as Written
 use Rattle.slices.proofs.Copied.{Copied}
 use Rattle.file_tables.proofs.fill_outputs.Statement.{statement}
 use Rattle.file_tables.proofs.fill_outputs.Tie as tie
 
-record Filled (s : List ℕ) (n : ℕ) (axes : List ℕ) (d count : ℕ) (scratch₀ table₀ scratch table v : List ℕ) (p : ℕ) : Type 0 where
-  asked : Filling s n axes d count scratch₀ table₀
-  written : Copied (listed (take d axes) (outputOf s)) table₀ count table p
+record Filled (s : List ℕ) (n : ℕ) (axes lows : List ℕ) (d count : ℕ) (scratch₀ table₀ scratch table v : List ℕ) (p : ℕ) : Type 0 where
+  asked : Filling s n axes lows d count scratch₀ table₀
+  written : Copied (gridOutputs s) table₀ count table p
   long : length scratch ≡ length scratch₀
   kept : KeptPast n scratch₀ scratch
   full : length v ≡ maxInputs
-  vector : p < count → v ≡ padded (digitsAt (take d axes) p)
+  vector : p < count → v ≡ heldAt lows (take d axes) p
 
 module _
-    (s : List ℕ) (n : ℕ) (axes : List ℕ) (d count : ℕ) (scratch₀ table₀ scratch table v : List ℕ) (p : ℕ)
-    (k : Filled s n axes d count scratch₀ table₀ scratch table v p)
+    (s : List ℕ) (n : ℕ) (axes lows : List ℕ) (d count : ℕ) (scratch₀ table₀ scratch table v : List ℕ) (p : ℕ)
+    (k : Filled s n axes lows d count scratch₀ table₀ scratch table v p)
   where
-    length-outputs : length (listed (take d axes) (outputOf s)) ≡ count
-    length-outputs = length-tabulate _ 0 (size (take d axes)) ∙ sym (k .asked .counted)
+    each-output : length (gridOutputs s) ≡ count
+    each-output = length-outputs s ∙ sym (k .asked .counted)
 
     ready : Ready s n v scratch
     ready =
@@ -49,42 +52,50 @@ module _
           room = omega (arith, k .long, k .asked .room);
         }
 
-    finished : count ≤ p → table ≡ listed (take d axes) (outputOf s) ++ drop count table₀
-    finished h = Written.whole _ _ _ _ _ (k .written) h ∙ ap (λ l. l ++ drop count table₀) (take-all count _ (omega (arith, length-outputs)))
+    finished : count ≤ p → table ≡ gridOutputs s ++ drop count table₀
+    finished h = Written.whole _ _ _ _ _ (k .written) h ∙ ap (λ l. l ++ drop count table₀) (take-all count _ (omega (arith, each-output)))
+
+    grid-size-axes : gridSize (sizesOf s) ≡ size (take d axes)
+    unfolding gridSize
+    grid-size-axes = sym (ap size (k .asked .grid))
 
     module _ (t : p < count) where
       inside : p < size (take d axes)
-      inside = omega (arith, k .asked .counted)
+      inside = omega (arith, k .asked .counted ∙ grid-size-axes)
 
-      placed : Placed (take d axes) v
+      placed : Placed lows (take d axes) v
       placed = record { place = p; inside = inside; shape = k .vector t }
 
-      output-here : outputOf s v ≡ getD (listed (take d axes) (outputOf s)) p 0
+      output-here : wordOutput s v ≡ getD (gridOutputs s) p 0
+      unfolding gridOutputs gridVector lowWords
       output-here =
-          ap (outputOf s) (k .vector t)
-          ∙ output-entries s (padded (digitsAt (take d axes) p)) (digitsAt (take d axes) p) (padded-entry (digitsAt (take d axes) p))
-          ∙ sym (getD-tabulate (λ q. outputOf s (digitsAt (take d axes) q)) 0 (size (take d axes)) 0 p inside ∙ ap (λ q. outputOf s (digitsAt (take d axes) q)) (omega arith))
+          let z = sizesOf s in
+          ap (wordOutput s)
+          (k .vector t ∙ ap₂ (λ l us. heldAt l us p) (k .asked .lowest) (k .asked .grid) ∙ held-integers (lowsOf z) (axesOf z) p (length-lows z))
+          ∙ padded-output s (k .asked .sound) (gridVector z p)
+          ∙ sym (getD-tabulate (λ q. outputOf s (gridVector z q)) 0 (gridSize z) 0 p (omega (arith, k .asked .counted)) ∙ ap (λ q. outputOf s (gridVector z q)) (omega arith))
 
       more :
-          (y : ℕ) (scratch' v' : List ℕ) → y ≡ outputOf s v → length scratch' ≡ length scratch → drop n scratch' ≡ drop n scratch →
+          (y : ℕ) (scratch' v' : List ℕ) → y ≡ wordOutput s v → length scratch' ≡ length scratch → drop n scratch' ≡ drop n scratch →
           length v' ≡ maxInputs →
-          ((q : ℕ) → q + 1 < size (take d axes) → v ≡ padded (digitsAt (take d axes) q) → v' ≡ padded (digitsAt (take d axes) (q + 1))) →
-          Filled s n axes d count scratch₀ table₀ scratch' (set table p y) v' (p + 1)
+          Next lows (take d axes) v v' →
+          Filled s n axes lows d count scratch₀ table₀ scratch' (set table p y) v' (p + 1)
       more y scratch' v' e l q w step =
+          let more-inside : p + 1 < count → p + 1 < size (take d axes) = λ h. omega (arith, h, k .asked .counted ∙ grid-size-axes) in
           record {
             asked = k .asked;
-            written = Written.more _ _ _ _ _ (k .written) y t (omega (arith, length-outputs)) (k .asked .tableRoom) (e ∙ output-here);
+            written = Written.more _ _ _ _ _ (k .written) y t (omega (arith, each-output)) (k .asked .tableRoom) (e ∙ output-here);
             long = l ∙ k .long;
             kept = q ∙ k .kept;
             full = w;
-            vector = λ h. step p (omega (arith, k .asked .counted)) (k .vector t);
+            vector = λ h. step p (more-inside h) (k .vector t);
           }
 
 abbrev Inv-loop : tie.InvT-loop
-Inv-loop file n axes d count scratch₀ table₀ v₀ p₀ scratch table v p = Filled file n axes d count scratch₀ table₀ scratch table v p
+Inv-loop file n axes lows d count scratch₀ table₀ v₀ p₀ scratch table v p = Filled file n axes lows d count scratch₀ table₀ scratch table v p
 
 abbrev μ-loop : tie.MeasureT-loop
-μ-loop file n axes d count scratch₀ table₀ v₀ p₀ scratch table v p = count - p
+μ-loop file n axes lows d count scratch₀ table₀ v₀ p₀ scratch table v p = count - p
 
 -- the places: the loop's head and its test, from the call that gives the output and from the round's end
 abbrev head : tie.After-slice-known3 Inv-loop μ-loop → tie.At-loop Inv-loop μ-loop
@@ -93,10 +104,15 @@ head c = c .before .before .before .before .before .before
 abbrev tested : tie.After-slice-known3 Inv-loop μ-loop → tie.In-loop Inv-loop μ-loop
 tested c = c .before .before .before .before .before
 
+-- the grid has a first place
+first-inside : {s : List ℕ} {n : ℕ} {axes lows : List ℕ} {d count : ℕ} {w t : List ℕ} → Filling s n axes lows d count w t → 0 < size (take d axes)
+unfolding gridSize
+first-inside k = omega (arith, k .some, k .counted ∙ ap size (sym (k .grid)))
+
 vector-at-requires : tie.Need-vector-at-requires Inv-loop μ-loop
 vector-at-requires c κs =
     let k = c .before .before .before .pre in
-    (omega (arith, k .inputs, k .sound .inputsHigh), omega (arith, k .some, k .counted))
+    (omega (arith, k .inputs, k .sound .inputsHigh), first-inside k)
 
 loop-holds : tie.Need-loop-holds Inv-loop μ-loop
 loop-holds c =
@@ -106,14 +122,14 @@ loop-holds c =
       long = refl;
       kept = refl;
       full = search needs;
-      vector = λ h. c .vector-at .ensures;
+      vector = λ h. c .vector-at .ensures .words;
     }
 
 slice-aggregate-output-at : tie.Need-slice-aggregate-output-at Inv-loop μ-loop
 slice-aggregate-output-at c = sym (c .before .before .loop .inv .full)
 
 output-at-requires : tie.Need-output-at-requires Inv-loop μ-loop
-output-at-requires c κs = ready _ _ _ _ _ _ _ _ _ _ _ (c .before .before .before .loop .inv)
+output-at-requires c κs = ready _ _ _ _ _ _ _ _ _ _ _ _ (c .before .before .before .loop .inv)
 
 mul-table : tie.Need-mul-table Inv-loop μ-loop
 mul-table c = let k = head c .loop .inv in omega (arith, tested c .loop-test .taken, k .written .long, k .asked .tableRoom)
@@ -124,7 +140,7 @@ slice-write-table c = let k = head c .loop .inv in omega (arith, tested c .loop-
 next-vector-requires : tie.Need-next-vector-requires Inv-loop μ-loop
 next-vector-requires c κs =
     let k = head c .loop .inv in
-    (omega (arith, k .asked .inputs, k .asked .sound .inputsHigh), placed _ _ _ _ _ _ _ _ _ _ _ k (tested c .loop-test .taken))
+    (omega (arith, k .asked .inputs, k .asked .sound .inputsHigh), placed _ _ _ _ _ _ _ _ _ _ _ _ k (tested c .loop-test .taken))
 
 add-p : tie.Need-add-p Inv-loop μ-loop
 add-p c = omega (arith, tested (c .before) .loop-test .taken)
@@ -135,7 +151,7 @@ loop-less c = omega (arith, tested (c .before) .loop-test .taken)
 loop-again : tie.Need-loop-again Inv-loop μ-loop
 loop-again c =
     let called = c .before .before .before .output-at in
-    more _ _ _ _ _ _ _ _ _ _ _ (head (c .before) .loop .inv) (tested (c .before) .loop-test .taken)
+    more _ _ _ _ _ _ _ _ _ _ _ _ (head (c .before) .loop .inv) (tested (c .before) .loop-test .taken)
     _ _ _ (called .ensures .output) (called .kept .1 .1 .1 .0) (called .ensures .kept) (search needs) (c .next-vector .ensures)
 
 same-length : tie.Need-same-length Inv-loop μ-loop
@@ -147,7 +163,7 @@ same-length-2 c = c .before .loop .inv .written .long
 returns : tie.Need-returns Inv-loop μ-loop
 returns c =
     let k = c .before .loop .inv in
-    record { table = finished _ _ _ _ _ _ _ _ _ _ _ k (c .loop-test .left); scratch = k .kept }
+    record { table = finished _ _ _ _ _ _ _ _ _ _ _ _ k (c .loop-test .left); scratch = k .kept }
 
 pub fill-outputs-spec : {M : Type 1} → statement M
 fill-outputs-spec =

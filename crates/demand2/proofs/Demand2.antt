@@ -12,7 +12,7 @@ use Rattle.cells.specs.Cells.{cellsRefusal}
 use Rattle.cells.specs.Taken.{Fitting}
 use Rattle.cells.proofs.Answers.{cells-accepted, cells-taken}
 use Rattle.differences.specs.Statement.{Cells}
-use Rattle.differences.specs.Table.{mixedDifference, listed, tableOf, given, sumBelow, summed}
+use Rattle.differences.specs.Table.{differenceAt, mixedDifference, listed, tableAt, tableOf, given, sumBelow, summed}
 use Rattle.lists.proofs.Tabulate.{length-tabulate, getD-tabulate}
 use Rattle.differences.proofs.Tables.{sumOfDifferences, differencesOfSum}
 use Rattle.fields.specs.File.{sizesOf}
@@ -22,7 +22,7 @@ use Rattle.file.proofs.Sound.{file-ruled}
 use Rattle.file_tables.specs.FileTables.{tableOfFile}
 use Rattle.file_tables.proofs.Answers.{made, table-accepted}
 use Rattle.file_tables.proofs.Files.{table-sums}
-use Rattle.grid.specs.Grid.{axesOf, gridSize}
+use Rattle.grid.specs.Grid.{axesOf, lowsOf, gridSize}
 use Rattle.integers.specs.Modulo.{remainder}
 use Rattle.integers.proofs.Remainder.{remainder-most}
 use Rattle.places.specs.Places.{size, digitsAt}
@@ -90,14 +90,14 @@ module _ (z : Sizes) where
       next-difference = differenced-accepted z (w ++ rest) again (number-of next) ∙ ap (λ l. differencesOf z l ++ drop (gridSize z) again) taken
 
 pub sumOfMade : SumOfMade
-unfolding tableOfFile
+unfolding tableOfFile tableAt
 sumOfMade s room table outputs e h =
     let z = sizesOf s in
     let M = 2 ^ z .m in
     let m = made s room (length table) (number-of e) in
     let ruled = file-ruled s (file-accepted s (m .sound)) in
     let rest = drop (gridSize z) table in
-    let g = cells-table M (pow-pos (z .m)) (axesOf z) (exact (stepsOf s)) in
+    let g = cells-listed M (axesOf z) (λ k. remainder (differenceAt (lowsOf z) k (exact (stepsOf s))) M) (λ k. remainder-most _ M (pow-pos (z .m))) in
     rw (table-accepted s room table (number-of e)) (
       next z ruled (tableOfFile s) rest outputs g h,
       next-sum z ruled (tableOfFile s) rest outputs g h

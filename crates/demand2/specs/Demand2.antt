@@ -8,11 +8,9 @@ use mathlib.Core.List.{List, _++_}
 use Prim.Native.Nat.{ℕ, _≤_}
 use lib.ListN.{length, take, drop}
 use Rattle.cells.specs.Cells.{cellsRefusal}
-use Rattle.differences.specs.Table.{listed}
-use Rattle.evaluate.specs.Evaluate.{outputOf}
 use Rattle.fields.specs.File.{sizesOf}
-use Rattle.file_tables.specs.FileTables.{tableRefusal, madeTable}
-use Rattle.grid.specs.Grid.{axesOf, gridSize}
+use Rattle.file_tables.specs.FileTables.{gridOutputs, tableRefusal, madeTable}
+use Rattle.grid.specs.Grid.{gridSize}
 use Rattle.sizes.specs.Sizes.{accepted}
 use Rattle.sizes.specs.declared.Sizes.{Sizes}
 use Rattle.tables.specs.Tables.{differenced, summedUp}
@@ -28,7 +26,7 @@ SumOfMade =
     let z = sizesOf s in
     let made = madeTable s room table in
     (cellsRefusal z made (length outputs) ≡ accepted) ×
-    HoldsCells z (listed (axesOf z) (outputOf s)) outputs (summedUp z made outputs)
+    HoldsCells z (gridOutputs s) outputs (summedUp z made outputs)
 
 abbrev pub DifferenceOfSum : Type 0
 DifferenceOfSum =

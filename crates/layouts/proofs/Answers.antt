@@ -1,17 +1,15 @@
 -- Answers as words: the first five are the refusal, the kind, whose word is one of four, and the count; then come the vector and two more.
 -- A vector that is shown is one of the grid's, padded to maxInputs entries. Assumes nothing.
 use mathlib.Core.Bool.{true, false}
-use mathlib.Core.List.{List, [], _∷_, _++_}
+use mathlib.Core.List.{List, [], _∷_, _++_, map}
 use mathlib.Core.Logic.{⊎-elim}
 use mathlib.Core.Path.{_≡_, refl, _∙_, ap}
 use Prim.Native.Nat.{ℕ, zero, suc, _+_, _-_, _≤_}
 use native.Mathlib.Omega.{arith}
-use lib.ListN.{length, getD, take, length-append}
+use lib.ListN.{length, getD, take, length-append, length-map}
 use Rattle.fields.specs.File.{sizesOf}
-use Rattle.grid.specs.Grid.{axesOf}
+use Rattle.grid.specs.Grid.{gridVector}
 use Rattle.grid.proofs.Grids.{length-axes-most}
-use Rattle.places.specs.Places.{digitsAt}
-use Rattle.places.proofs.Places.{length-digits}
 use Rattle.ranges.proofs.Search.{true-or-false}
 use Rattle.sessions.specs.Session.{continueRefusal, refusedAnswer, plainAnswer, differsAnswer, progress, advanced, continued}
 use Rattle.sessions.specs.declared.Answer.{Answer}
@@ -23,6 +21,8 @@ use Rattle.sessions.proofs.Cases.{passed, progress-each}
 use Rattle.sessions.proofs.Pair.{comparable}
 use Rattle.sizes.specs.Sizes.{maxInputs, isRefusal}
 use Rattle.sizes.proofs.Padded.{length-padded}
+use Rattle.vectors.proofs.GridWords.{length-grid-vector}
+use Rattle.words.specs.Words.{word}
 use Rattle.layouts.specs.AnswerWords.{kindWord, kindFrom, answerWords, answerFrom}
 use Rattle.layouts.specs.Lengths.{wordAt, atKind, answerLength}
 use Rattle.layouts.specs.Statement.{WholeVector, AnswersAsWords}
@@ -92,7 +92,8 @@ progress-vector :
 unfolding differsAnswer plainAnswer
 progress-vector s₁ s₂ σ B G q high =
     progress-each (λ (c : Continued). WholeVector (c .answer)) s₁ s₂ σ B G q
-    (length-padded (digitsAt (axesOf (sizesOf s₁)) q) (omega (arith, length-digits (axesOf (sizesOf s₁)) q, length-axes-most (sizesOf s₁))))
+    (length-padded (map word (gridVector (sizesOf s₁) q))
+    (omega (arith, length-map (gridVector (sizesOf s₁) q) word, length-grid-vector (sizesOf s₁) q, length-axes-most (sizesOf s₁))))
     refl
     refl
 

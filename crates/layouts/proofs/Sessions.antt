@@ -8,6 +8,7 @@ use Prim.Native.Nat.{ℕ, zero, suc, _+_, _-_, _≤_, _<_}
 use native.Mathlib.Decide.{decLt}
 use native.Mathlib.Omega.{arith}
 use lib.ListN.{length, getD, take, length-append, length-replicate, getD-replicate, List·getD-append}
+use Rattle.formats.proofs.Bytes.{format-most}
 use Rattle.file.specs.Accepted.{Accepted}
 use Rattle.fields.specs.File.{sizesOf}
 use Rattle.fields.proofs.Heads.{length-widths}
@@ -111,7 +112,7 @@ file-bytes s a =
       count = length-widths s;
       width = λ i l.
           elim (decLt i (sizesOf s .d)) [
-            | yes u ↦ omega (arith, a .widthHigh i u)
+            | yes u ↦ omega (arith, a .widthHigh i u, format-most (getD (sizesOf s .widths) i 0))
             | no v ↦ omega (arith, a .widthUnused i (omega arith) l)
           ];
     }

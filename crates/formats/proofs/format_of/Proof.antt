@@ -1,7 +1,7 @@
 -- `formats::format_of` meets its contract: the shift by 7 is the quotient by 128, which is 1 from 128 on, and the mask leaves the remainder.
 -- Assumes nothing.
 use mathlib.Core.Path.{_≡_}
-use Prim.Native.Nat.{ℕ, _/_, _%_, _^_, _<_}
+use Prim.Native.Nat.{ℕ, _-_, _/_, _%_, _^_, _<_}
 use native.Mathlib.Decide.{decLt}
 use native.Mathlib.Nat.{lt-trans}
 use native.Mathlib.Omega.{arith}
@@ -16,8 +16,8 @@ parted : (b : ℕ) → b < 2 ^ 8 → record { signed = eqb (b / 128) 1; length =
 unfolding formatOf
 parted b h =
     elim (decLt b 128) [
-      | yes l ↦ rw (lt-leb 128 b l, ne-eqb (b / 128) 1 (λ e. omega arith))
-      | no l ↦ rw (le-leb 128 b (omega arith), eq-eqb (b / 128) 1 (omega arith))
+      | yes l ↦ let e : b % 128 ≡ b = omega arith in rw (lt-leb 128 b l, ne-eqb (b / 128) 1 (λ e. omega arith), e)
+      | no l ↦ let e : b % 128 ≡ b - 128 = omega arith in rw (le-leb 128 b (omega arith), eq-eqb (b / 128) 1 (omega arith), e)
     ]
 
 cast-t5 : tie.Need-cast-t5

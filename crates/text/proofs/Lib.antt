@@ -1,4 +1,5 @@
 pub mod Pieces
 pub mod Decimal
+pub mod Integer
 pub mod Over
 pub mod Spaced

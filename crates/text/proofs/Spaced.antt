@@ -1,4 +1,4 @@
--- Numbers after spaces: those of two lists one after the other, one number more, and the room for it. By recursion on the list. Assumes
+-- Entries after spaces: those of two lists one after the other, one entry more, and the room for it. By recursion on the list. Assumes
 -- nothing.
 use mathlib.Core.Path.{_≡_, refl, sym, _∙_, ap, subst}
 use mathlib.Core.List.{List, [], _∷_, _++_, append-assoc, append-nil}
@@ -6,36 +6,37 @@ use Prim.Native.Nat.{ℕ, suc, _+_, _<_}
 use native.Mathlib.Numerals.{add-one}
 use lib.ListN.{length, getD, take, drop}
 use lib.Seq.{take-suc, split-at}
-use Rattle.text.specs.Decimal.{decimal}
-use Rattle.text.specs.Text.{space, line, spaced}
+use Rattle.text.specs.Text.{space, line, spacedBy}
 use Rattle.text.specs.Writing.{RoomFor}
 use Rattle.text.proofs.Over.{room-first}
 
-pub spaced-one : (n : ℕ) → spaced (n ∷ []) ≡ space ∷ decimal n
-unfolding spaced
-spaced-one n = append-nil (space ∷ decimal n)
+module _ {A : Type 0} (f : A → List ℕ) where
+  pub spaced-one : (x : A) → spacedBy f (x ∷ []) ≡ space ∷ f x
+  unfolding spacedBy
+  spaced-one x = append-nil (space ∷ f x)
 
-spaced-append : (ns ms : List ℕ) → spaced (ns ++ ms) ≡ spaced ns ++ spaced ms
-unfolding spaced
-spaced-append [] ms = refl
-spaced-append (n ∷ ns) ms = rw (spaced-append ns ms) (sym (append-assoc (space ∷ decimal n) (spaced ns) (spaced ms)))
+  spaced-append : (xs ys : List A) → spacedBy f (xs ++ ys) ≡ spacedBy f xs ++ spacedBy f ys
+  unfolding spacedBy
+  spaced-append [] ys = refl
+  spaced-append (x ∷ xs) ys = rw (spaced-append xs ys) (sym (append-assoc (space ∷ f x) (spacedBy f xs) (spacedBy f ys)))
 
--- the first i numbers, and one more
-pub spaced-step : (ns : List ℕ) (i : ℕ) → i < length ns → spaced (take (i + 1) ns) ≡ spaced (take i ns) ++ spaced (getD ns i 0 ∷ [])
-spaced-step ns i h = rw (add-one i, take-suc ns i 0) (spaced-append (take i ns) (getD ns i 0 ∷ []))
+  -- the first i entries, and one more; past the end there are copies of z
+  module _ (xs : List A) (i : ℕ) (z : A) (h : i < length xs) where
+    pub spaced-step : spacedBy f (take (i + 1) xs) ≡ spacedBy f (take i xs) ++ spacedBy f (getD xs i z ∷ [])
+    spaced-step = rw (add-one i, take-suc xs i z) (spaced-append (take i xs) (getD xs i z ∷ []))
 
--- room for all of them is room for those
-pub spaced-room :
-    (ns : List ℕ) (i : ℕ) → i < length ns → {t : List ℕ} {at : ℕ} → RoomFor (spaced ns) t at →
-    RoomFor (spaced (take i ns) ++ spaced (getD ns i 0 ∷ [])) t at
-spaced-room ns i h {t} {at} room =
-    let n = getD ns i 0 ∷ [] in
-    let split =
-    ap spaced (split-at ns i 0 h)
-    ∙ spaced-append (take i ns) (getD ns i 0 ∷ drop (suc i) ns)
-    ∙ ap (λ (bytes : List ℕ). spaced (take i ns) ++ bytes) (spaced-append n (drop (suc i) ns))
-    ∙ sym (append-assoc (spaced (take i ns)) (spaced n) (spaced (drop (suc i) ns))) in
-    room-first (spaced (take i ns) ++ spaced n) (spaced (drop (suc i) ns)) (subst (λ (bytes : List ℕ). RoomFor bytes t at) split room)
+    -- room for all of them is room for those
+    pub spaced-room :
+        {t : List ℕ} {at : ℕ} → RoomFor (spacedBy f xs) t at → RoomFor (spacedBy f (take i xs) ++ spacedBy f (getD xs i z ∷ [])) t at
+    spaced-room {t} {at} room =
+        let one = getD xs i z ∷ [] in
+        let split =
+        ap (spacedBy f) (split-at xs i z h)
+        ∙ spaced-append (take i xs) (getD xs i z ∷ drop (suc i) xs)
+        ∙ ap (λ (bytes : List ℕ). spacedBy f (take i xs) ++ bytes) (spaced-append one (drop (suc i) xs))
+        ∙ sym (append-assoc (spacedBy f (take i xs)) (spacedBy f one) (spacedBy f (drop (suc i) xs))) in
+        room-first (spacedBy f (take i xs) ++ spacedBy f one) (spacedBy f (drop (suc i) xs))
+        (subst (λ (bytes : List ℕ). RoomFor bytes t at) split room)
 
 -- a line of two halves: what comes up to the sign v, and the line of what comes after it
 pub line-halves : (w x v y : List ℕ) → line (w ++ x ++ (v ++ y)) ≡ w ++ x ++ v ++ line y

@@ -5,9 +5,9 @@ use mathlib.Core.List.{List, [], _∷_}
 use Prim.Native.Nat.{ℕ, zero, suc, _+_, _≤_}
 use native.Mathlib.Numerals.{add-one}
 use native.Mathlib.Omega.{arith}
-use lib.IntN.{ℤ, pos, negsuc, negℤ, natAbs}
-use lib.ListN.{length, getD, drop}
-use Rattle.text.specs.Decimal.{decimal, numeral, minus, integer, IsDecimal, IsInteger, Integers, OneInteger, IntegersApart}
+use lib.IntN.{pos, negsuc, negℤ, natAbs}
+use lib.ListN.{getD, drop}
+use Rattle.text.specs.Decimal.{decimal, numeral, minus, integer, IsDecimal, Integers, OneInteger, IntegersApart}
 use Rattle.text.proofs.Decimal.{decimals, oneDecimal}
 
 -- the decimals of equal numbers

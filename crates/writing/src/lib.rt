@@ -1,8 +1,16 @@
-// Writing bytes and decimal numbers into a text slice, from an index on. Each function answers the index after what it
-// wrote.
-ghost use mathlib.Core.List.{[], _∷_, _++_};
+// Writing bytes, decimal numbers and the values of inputs into a text slice, from an index on. Each function answers
+// the index after what it wrote.
+use formats::Format;
+use formats::format_of;
+use input_words::signed_value;
+ghost use lib.IntN.{pos};
+ghost use lib.Signed.{ltZ};
+ghost use mathlib.Core.List.{[], _∷_, _++_, map};
+ghost use mathlib.Core.Path.{_≡_};
+ghost use Rattle.formats.specs.Bytes.{formatOf};
+ghost use Rattle.input_words.specs.InputWords.{valueOf, valuesOf};
 ghost use Rattle.text.specs.Decimal.{decimal};
-ghost use Rattle.text.specs.Text.{line, spaced};
+ghost use Rattle.text.specs.Text.{line, spaced, spacedIntegers};
 ghost use Rattle.text.specs.Writing.{RoomFor, Put};
 
 // Writes one byte.
@@ -47,6 +55,43 @@ fn put_number(text: &mut [u8], at: usize, n: u64) -> usize
 {
     let next = put_byte(text, at, b' ');
     put_decimal(text, next, n)
+}
+
+// Whether the value that the word gives to an input of the format is negative.
+fn is_negative(format: Format, w: u64) -> bool
+    ensures { λ r. ⌜ r ≡ ltZ (valueOf format w) (pos 0) ⌝ }
+{
+    format.signed && signed_value(w) < 0
+}
+
+// Writes a space and the value that the word gives to an input of the format: where it is negative, a minus sign and
+// its magnitude.
+fn put_value(text: &mut [u8], at: usize, format: Format, w: u64) -> usize
+    requires { ⌜ RoomFor (spacedIntegers (valueOf format w ∷ [])) (now text) at ⌝ }
+    ensures { λ r. ⌜ Put (spacedIntegers (valueOf format w ∷ [])) (now (text .entry)) (now (text .exit)) at r ⌝ }
+{
+    if is_negative(format, w) {
+        let next = put_bytes(text, at, b" -");
+        return put_decimal(text, next, 18446744073709551615 - w + 1);
+    }
+    put_number(text, at, w)
+}
+
+// Writes the values that the words give to inputs of these width bytes, each after a space: as many as there are of
+// both.
+pub fn put_values(text: &mut [u8], at: usize, widths: &[u8], ws: &[u64]) -> usize
+    requires { ⌜ RoomFor (spacedIntegers (valuesOf (map formatOf (now widths)) (now ws))) (now text) at ⌝ }
+    ensures { λ r.
+        ⌜ Put (spacedIntegers (valuesOf (map formatOf (now (widths .entry))) (now (ws .entry))))
+        (now (text .entry)) (now (text .exit)) at r ⌝ }
+{
+    let mut next = at;
+    let mut i = 0;
+    while i < widths.len() && i < ws.len() {
+        next = put_value(text, next, format_of(widths[i]), ws[i]);
+        i += 1;
+    }
+    next
 }
 
 // Writes the numbers, each after a space.

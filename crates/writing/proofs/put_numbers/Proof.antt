@@ -7,7 +7,8 @@ use borrow.Author.Needs.{needs}
 use denote.Ref.{now}
 use lib.ListN.{length, take}
 use lib.Seq.{take-all}
-use Rattle.text.specs.Text.{spaced}
+use Rattle.text.specs.Decimal.{decimal}
+use Rattle.text.specs.Text.{spaced, spacedBy}
 use Rattle.text.specs.Writing.{Put}
 use Rattle.text.proofs.Over.{room-second, put-start, put-then}
 use Rattle.text.proofs.Spaced.{spaced-step, spaced-room}
@@ -22,7 +23,7 @@ abbrev μ-loop : tie.MeasureT-loop
 μ-loop text₀ at ns next₀ i₀ text next i = length ns - i
 
 loop-holds : tie.Need-loop-holds Inv-loop μ-loop
-unfolding spaced
+unfolding spacedBy
 loop-holds c = (omega arith, refl, put-start _ _)
 
 mul-put-number : tie.Need-mul-put-number Inv-loop μ-loop
@@ -35,7 +36,7 @@ put-number-requires : tie.Need-put-number-requires Inv-loop μ-loop
 put-number-requires c κs =
     let turn = c .before .before .before in
     let s = turn .before .before .before in
-    room-second (spaced-room (now (s .args .ns)) (turn .loop .i) (c .before .before .loop-test .taken) (s .pre)) (turn .loop .inv .2)
+    room-second (spaced-room decimal (now (s .args .ns)) (turn .loop .i) 0 (c .before .before .loop-test .taken) (s .pre)) (turn .loop .inv .2)
 
 add-i : tie.Need-add-i Inv-loop μ-loop
 add-i c = search needs
@@ -51,8 +52,8 @@ loop-again c =
     let inv = turn .loop .inv in (
       omega arith,
       search needs,
-      rw (spaced-step (now (s .args .ns)) i (omega arith))
-          (put-then (spaced-room (now (s .args .ns)) i (omega arith) (s .pre)) (inv .2) (c .before .before .put-number .ensures)),
+      rw (spaced-step decimal (now (s .args .ns)) i 0 (omega arith))
+          (put-then (spaced-room decimal (now (s .args .ns)) i 0 (omega arith) (s .pre)) (inv .2) (c .before .before .put-number .ensures)),
     )
 
 same-length : tie.Need-same-length Inv-loop μ-loop

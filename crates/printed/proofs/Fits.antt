@@ -1,28 +1,37 @@
--- The text of an answer is never longer than textRoom: an axis has at most two digits, and any other number, below 2^64, at most 20; each has a
--- space. There are at most maxInputs axes, as many entries, and five numbers more. Assumes nothing.
+-- The text of an answer is never longer than textRoom: an axis has at most two digits, and any other number, below 2^64, at most 20; a negative
+-- value has a minus sign and at most 19; each has a space. There are at most maxInputs axes, as many values, and five numbers more. Assumes
+-- nothing.
+use mathlib.Core.Bool.{Bool, true, false, cond}
 use mathlib.Core.Path.{_≡_, refl, ap}
 use mathlib.Core.List.{List, [], _∷_}
-use Prim.Native.Nat.{ℕ, zero, suc, _*_, _/_, _^_, _≤_, _<_}
+use Prim.Native.Nat.{ℕ, zero, suc, _+_, _-_, _*_, _/_, _^_, _≤_, _<_}
 use native.Mathlib.Nat.{le-trans, mul-comm, suc-mul, pow-succ', div-lt-iff-lt-mul}
 use native.Mathlib.Decide.{decLt}
 use native.Mathlib.Omega.{arith}
 use lib.Dec.{lit≤, lit<}
-use lib.ListN.{length, getD, take, length-append, length-take}
+use lib.IntN.{pos}
+use lib.ListN.{length, getD, take, length-append, length-map, length-take}
 use Rattle.bound.specs.Axes.{axis, axes}
 use Rattle.plan.proofs.Axes.{length-file-axes, file-grid-fits}
 use Rattle.file.specs.Accepted.{Accepted}
 use Rattle.fields.specs.File.{sizesOf}
-use Rattle.grid.specs.Grid.{widthsOf, axesOf, gridSize}
+use Rattle.formats.specs.Bytes.{formatOf}
+use Rattle.formats.specs.declared.Format.{Format}
+use Rattle.grid.specs.Grid.{axesOf, gridSize}
 use Rattle.grid.proofs.Axes.{axis-most}
+use Rattle.evaluate.specs.Evaluate.{vectorOf}
+use Rattle.input_words.specs.InputWords.{signedValue, valueOf, valuesOf}
+use Rattle.input_words.proofs.InputWords.{signed-natural, signed-negative}
 use Rattle.sessions.specs.Session.{opened}
 use Rattle.sessions.specs.declared.Answer.{Answer}
 use Rattle.sessions.specs.declared.Kind.{Kind}
 use Rattle.sessions.specs.declared.Kind.the-variants.{Refused, Spent, Equivalent, Differs}
-use Rattle.sizes.specs.Sizes.{maxInputs}
+use Rattle.sizes.specs.Sizes.{maxInputs, formatsOf}
+use Rattle.sizes.specs.declared.Sizes.{Sizes}
 use Rattle.printed.specs.Claims.{Words, Fits}
-use Rattle.text.specs.Decimal.{decimal}
+use Rattle.text.specs.Decimal.{decimal, integer}
 use Rattle.printed.specs.Report.{gridText, shownText, concluded, reportOf, textRoom}
-use Rattle.text.specs.Text.{spaced}
+use Rattle.text.specs.Text.{spacedBy}
 use Rattle.printed.specs.Lines.{refusalLine, gridLine, differLine, equivalentLine, runLine}
 use Rattle.text.proofs.Decimal.{decimal-last, length-decimal}
 use Rattle.printed.proofs.Texts.{concluded-refused, concluded-lines, first-accepted, report-refused, report-spent, report-equivalent, report-differs}
@@ -41,35 +50,54 @@ digits-most (suc k) n h =
 decimal-most : (n : ℕ) → n < 2 ^ 64 → length (decimal n) ≤ 20
 decimal-most n h = digits-most 19 n (le-trans h (lit≤ tt))
 
--- each of the numbers has at most c digits
-abbrev FewDigits : ℕ → List ℕ → Type 0
-FewDigits c [] = Unit {0}
-FewDigits c (n ∷ ns) = (length (decimal n) ≤ c) × FewDigits c ns
+-- and so for a value, by the mark of its input
+value-most : (f : Format) (w : ℕ) → w < 2 ^ 64 → length (integer (valueOf f w)) ≤ 20
+unfolding valueOf integer
+value-most f w h = by-mark (f .signed)
+  where
+    by-mark : (s : Bool) → length (integer (cond s (signedValue w) (pos w))) ≤ 20
+    by-mark false = decimal-most w h
+    by-mark true =
+        elim (decLt w (2 ^ 63)) [
+          | yes l ↦ rw (signed-natural w l) (decimal-most w h)
+          | no l ↦
+              let size : 2 ^ 64 - suc w + 1 < 10 ^ 19 = omega arith in
+              rw (signed-negative w (omega arith) h) (omega (arith, digits-most 18 (2 ^ 64 - suc w + 1) size))
+        ]
 
-spaced-most : (c : ℕ) (ns : List ℕ) → FewDigits c ns → length (spaced ns) ≤ length ns * suc c
-unfolding spaced
-spaced-most c [] h = omega arith
-spaced-most c (n ∷ ns) h =
-    rw (suc-mul (length ns) (suc c)) (omega (arith, length-append (decimal n) (spaced ns), h .0, spaced-most c ns (h .1)))
+-- each of the entries has at most c bytes
+abbrev Short : {A : Type 0} → (A → List ℕ) → ℕ → List A → Type 0
+Short f c [] = Unit {0}
+Short f c (x ∷ xs) = (length (f x) ≤ c) × Short f c xs
 
-entry-digits : (ns : List ℕ) → ((i : ℕ) → getD ns i 0 < 2 ^ 64) → FewDigits 20 ns
-entry-digits [] h = tt
-entry-digits (n ∷ ns) h = (decimal-most n (h 0), entry-digits ns (λ i. h (suc i)))
+spaced-most : {A : Type 0} (f : A → List ℕ) (c : ℕ) (xs : List A) → Short f c xs → length (spacedBy f xs) ≤ length xs * suc c
+unfolding spacedBy
+spaced-most f c [] h = omega arith
+spaced-most f c (x ∷ xs) h =
+    rw (suc-mul (length xs) (suc c)) (omega (arith, length-append (f x) (spacedBy f xs), h .0, spaced-most f c xs (h .1)))
 
-take-digits : (c d : ℕ) (ns : List ℕ) → FewDigits c ns → FewDigits c (take d ns)
-take-digits c zero ns h = tt
-take-digits c (suc d) [] h = tt
-take-digits c (suc d) (n ∷ ns) h = (h .0, take-digits c d ns (h .1))
+axes-short : (m : ℕ) → 1 ≤ m → m ≤ 64 → (fs : List Format) → Short decimal 2 (axes m fs)
+axes-short m low high [] = tt
+axes-short m low high (f ∷ fs) =
+    (digits-most 1 (axis m f) (omega (arith, axis-most m low high f)), axes-short m low high fs)
 
-axes-digits : (m : ℕ) → 1 ≤ m → m ≤ 64 → (ns : List ℕ) → FewDigits 2 (axes m ns)
-axes-digits m low high [] = tt
-axes-digits m low high (n ∷ ns) =
-    (digits-most 1 (axis m n) (omega (arith, axis-most m low high n)), axes-digits m low high ns)
+values-short : (fs : List Format) (ws : List ℕ) → ((i : ℕ) → getD ws i 0 < 2 ^ 64) → Short integer 20 (valuesOf fs ws)
+unfolding valuesOf
+values-short [] ws h = tt
+values-short (f ∷ fs) [] h = tt
+values-short (f ∷ fs) (w ∷ ws) h = (value-most f w (h 0), values-short fs ws (λ i. h (suc i)))
+
+-- there are no more values than inputs
+values-fewer : (fs : List Format) (ws : List ℕ) → length (valuesOf fs ws) ≤ length fs
+unfolding valuesOf
+values-fewer [] ws = omega arith
+values-fewer (f ∷ fs) [] = omega arith
+values-fewer (f ∷ fs) (w ∷ ws) = omega (arith, values-fewer fs ws)
 
 -- the lines
 module _ (a : Answer) (w : Words a) where
   refusal-most : length (refusalLine (a .refusal)) ≤ 71
-  unfolding refusalLine spaced
+  unfolding refusalLine spacedBy
   refusal-most =
       simp length-append
       (omega (
@@ -79,14 +107,16 @@ module _ (a : Answer) (w : Words a) where
         decimal-most (a .refusal .step) (w .step),
       ))
 
-  differ-most : (d : ℕ) → d ≤ maxInputs → length (differLine (take d (a .vector)) (a .output1) (a .output2)) ≤ 261
-  unfolding differLine spaced
-  differ-most d h =
+  differ-most : (z : Sizes) → z .d ≤ maxInputs → length (differLine (vectorOf z (a .vector)) (a .output1) (a .output2)) ≤ 261
+  unfolding differLine spacedBy
+  differ-most z h =
       simp length-append
       (omega (
         arith,
-        spaced-most 20 (take d (a .vector)) (take-digits 20 d (a .vector) (entry-digits (a .vector) (w .entries))),
-        length-take d (a .vector),
+        spaced-most integer 20 (vectorOf z (a .vector)) (values-short (formatsOf z) (a .vector) (w .entries)),
+        values-fewer (formatsOf z) (a .vector),
+        length-map (take (z .d) (z .widths)) formatOf,
+        length-take (z .d) (z .widths),
         decimal-most (a .output1) (w .output₁),
         decimal-most (a .output2) (w .output₂),
       ))
@@ -95,24 +125,24 @@ module _ (a : Answer) (w : Words a) where
   unfolding equivalentLine
   equivalent-most = omega arith
 
-  shown-most : (k : Kind) (d : ℕ) → d ≤ maxInputs → length (shownText k d a) ≤ 261
+  shown-most : (k : Kind) (z : Sizes) → z .d ≤ maxInputs → length (shownText k z a) ≤ 261
   unfolding shownText
-  shown-most Refused d h = omega arith
-  shown-most Spent d h = omega arith
-  shown-most Equivalent d h = omega (arith, differ-most d h, equivalent-most)
-  shown-most Differs d h = omega (arith, differ-most d h, equivalent-most)
+  shown-most Refused z h = omega arith
+  shown-most Spent z h = omega arith
+  shown-most Equivalent z h = omega (arith, differ-most z h, equivalent-most)
+  shown-most Differs z h = omega (arith, differ-most z h, equivalent-most)
 
 run-most : (n : ℕ) → n < 2 ^ 64 → length (runLine n) ≤ 25
-unfolding runLine spaced
+unfolding runLine spacedBy
 run-most n h = simp length-append (omega (arith, decimal-most n h))
 
 grid-most : (s : List ℕ) → Accepted s → length (gridText s) ≤ 58
-unfolding gridText gridLine axesOf spaced
+unfolding gridText gridLine axesOf spacedBy
 grid-most s a =
     simp length-append
     (omega (
       arith,
-      spaced-most 2 (axesOf (sizesOf s)) (axes-digits (sizesOf s .m) (a .outputLow) (a .outputHigh) (widthsOf (sizesOf s))),
+      spaced-most decimal 2 (axesOf (sizesOf s)) (axes-short (sizesOf s .m) (a .outputLow) (a .outputHigh) (formatsOf (sizesOf s))),
       length-file-axes s a,
       a .inputsHigh,
       decimal-most (gridSize (sizesOf s)) (file-grid-fits s a),
@@ -134,7 +164,7 @@ fits f₁ f₂ a n w h = by (a .kind) refl
                 ap length e,
                 simp length-append at three,
                 grid-most f₁ s,
-                shown-most a w (a .kind) (sizesOf f₁ .d) (s .inputsHigh),
+                shown-most a w (a .kind) (sizesOf f₁) (s .inputsHigh),
                 run-most n h,
               )
         ]

@@ -5,19 +5,14 @@ use mathlib.Core.Path.{_≡_, refl, sym, _∙_, ap}
 use mathlib.Core.Bool.{true}
 use mathlib.Core.Logic.{inl, inr}
 use mathlib.Core.List.{List, _++_}
-use Prim.Native.Nat.{ℕ, _-_, _<_}
+use Prim.Native.Nat.{ℕ, _<_}
 use native.Mathlib.Decide.{decLt}
 use native.Mathlib.Omega.{arith}
-use lib.ListN.{take}
-use lib.Seq.{take-at}
 use borrow.Author.Tests.{ne-eqb}
-use Rattle.plan.proofs.Axes.{length-file-axes}
 use Rattle.fields.specs.File.{sizesOf}
-use Rattle.grid.specs.Grid.{axesOf, gridSize}
-use Rattle.places.proofs.LastAxis.{length-below}
-use Rattle.places.proofs.Places.{oneToOne}
+use Rattle.grid.specs.Grid.{gridSize}
 use Rattle.sessions.specs.Calls.{IsVerdict}
-use Rattle.sessions.specs.Demand3.{firstPlace, stop, stopVector, Settled}
+use Rattle.sessions.specs.Demand3.{firstPlace, stop, Settled}
 use Rattle.sessions.specs.Session.{pairRefusal, opened, continueRefusal, refusedAnswer, continued}
 use Rattle.sessions.specs.declared.Answer.{Answer}
 use Rattle.sessions.specs.declared.Continued.{Continued}
@@ -25,15 +20,13 @@ use Rattle.sessions.specs.declared.Kind.the-variants.{Equivalent, Differs}
 use Rattle.sessions.specs.declared.Session.{Session}
 use Rattle.sessions.proofs.Cases.{continued-refused}
 use Rattle.sessions.proofs.Demand3.{at-verdict}
-use Rattle.sessions.proofs.Step.{stop-differs}
 use Rattle.sizes.specs.Sizes.{isRefusal}
-use Rattle.sizes.specs.Padded.{padded}
 use Rattle.printed.specs.Claims.{ReportedInFull, RefusedReported}
 use Rattle.printed.specs.Report.{gridText, verdictText, printed, shownText, concluded, reportOf}
 use Rattle.printed.specs.Lines.{runLine}
 use Rattle.printed.proofs.Printed.{all-equal, not-equal, verdict-equivalent, verdict-differs, printed-lines}
 use Rattle.printed.proofs.Shown.{line-equivalent, line-differs}
-use Rattle.printed.proofs.Texts.{concluded-lines, first-accepted, report-refused, report-equivalent, report-differs}
+use Rattle.printed.proofs.Texts.{concluded-lines, report-refused, report-equivalent, report-differs}
 
 module _ (f₁ f₂ : List ℕ) (o : opened f₁ f₂ .refusal .number ≡ 0) where
   abbrev place : ℕ
@@ -42,36 +35,27 @@ module _ (f₁ f₂ : List ℕ) (o : opened f₁ f₂ .refusal .number ≡ 0) wh
   abbrev G : ℕ
   G = gridSize (sizesOf f₁)
 
-  -- the first d entries of the vector that is held are the vector
-  front : place < G → take (sizesOf f₁ .d) (padded (stopVector f₁ f₂)) ≡ stopVector f₁ f₂
-  unfolding gridSize
-  front l =
-      let us = axesOf (sizesOf f₁) in
-      let inside : stop f₁ f₂ - 1 < G = omega (arith, stop-differs f₁ f₂ l) in
-      take-at (stopVector f₁ f₂) _ (sizesOf f₁ .d)
-      (length-below us (stopVector f₁ f₂) (oneToOne us .below (stop f₁ f₂ - 1) inside) ∙ length-file-axes f₁ (first-accepted f₁ f₂ o))
-
   module _ (a : Answer) (right : Settled f₁ f₂ a) where
-    shown-equivalent : a .kind ≡ Equivalent → shownText (a .kind) (sizesOf f₁ .d) a ≡ verdictText f₁ f₂
+    shown-equivalent : a .kind ≡ Equivalent → shownText (a .kind) (sizesOf f₁) a ≡ verdictText f₁ f₂
     shown-equivalent e =
         elim (decLt place G) [
           | yes l ↦ absurd (not-equal f₁ f₂ o l (right .equivalent .0 e))
-          | no l ↦ line-equivalent (sizesOf f₁ .d) a e ∙ sym (verdict-equivalent f₁ f₂ o (omega arith))
+          | no l ↦ line-equivalent (sizesOf f₁) a e ∙ sym (verdict-equivalent f₁ f₂ o (omega arith))
         ]
 
-    shown-differs : a .kind ≡ Differs → shownText (a .kind) (sizesOf f₁ .d) a ≡ verdictText f₁ f₂
+    shown-differs : a .kind ≡ Differs → shownText (a .kind) (sizesOf f₁) a ≡ verdictText f₁ f₂
     shown-differs e =
         elim (decLt place G) [
           | yes l ↦
               let s = right .differs e in
-              rw (line-differs (sizesOf f₁ .d) a e, verdict-differs f₁ f₂ o l, s .vector, s .output₁, s .output₂, front l)
+              rw (line-differs (sizesOf f₁) a e, verdict-differs f₁ f₂ o l, s .integers, s .output₁, s .output₂)
           | no l ↦
               let k = right .equivalent .1 (all-equal f₁ f₂ o (omega arith)) in
               absurd (let q : _≡_ {A = ℕ} 0 1 = cc in omega arith)
         ]
 
     -- the three lines
-    whole : shownText (a .kind) (sizesOf f₁ .d) a ≡ verdictText f₁ f₂ → concluded f₁ f₂ a (stop f₁ f₂) ≡ printed f₁ f₂
+    whole : shownText (a .kind) (sizesOf f₁) a ≡ verdictText f₁ f₂ → concluded f₁ f₂ a (stop f₁ f₂) ≡ printed f₁ f₂
     whole shown =
         concluded-lines f₁ f₂ o a (stop f₁ f₂)
         ∙ ap (λ (t : List ℕ). gridText f₁ ++ t ++ runLine (stop f₁ f₂)) shown

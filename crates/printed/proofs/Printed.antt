@@ -11,8 +11,7 @@ use lib.ListN.{getD}
 use borrow.Author.Tests.{lt-ltb, le-ltb, eq-eqb, ne-eqb}
 use Rattle.evaluate.specs.Evaluate.{outputOf}
 use Rattle.fields.specs.File.{sizesOf}
-use Rattle.grid.specs.Grid.{axesOf, gridSize}
-use Rattle.places.specs.Places.{digitsAt}
+use Rattle.grid.specs.Grid.{gridSize, gridVector}
 use Rattle.sessions.specs.Demand3.{firstPlace, stop, stopVector, ShowsFirst, Settled}
 use Rattle.sessions.specs.Session.{opened, plainAnswer, differsAnswer}
 use Rattle.sessions.specs.declared.Kind.the-variants.{Equivalent}
@@ -22,11 +21,12 @@ use Rattle.sessions.proofs.Verdict.{settled}
 use Rattle.sizes.specs.declared.Refusal.{Refusal}
 use Rattle.printed.specs.Claims.{AllEqual, DifferLine, Tells, PrintedTells, Refuses, RefusedLine, RefusedText}
 use Rattle.printed.specs.Report.{gridText, verdictText, printed}
-use Rattle.text.specs.Text.{ascii, lineFeed, line, spaced, words}
+use Rattle.text.specs.Decimal.{decimal}
+use Rattle.text.specs.Text.{ascii, lineFeed, line, words}
 use Rattle.printed.specs.Lines.{refusalLine, differLine, equivalentLine, runLine}
-use Rattle.text.proofs.Pieces.{free, free-append, free-spaced, pieces-words}
+use Rattle.text.proofs.Pieces.{free, free-decimal, pieces-words}
 use Rattle.printed.proofs.Texts.{report-refused}
-use Rattle.printed.proofs.ThreeLines.{linesOf-one, three-lines, differBytes, differ-free, differ-words}
+use Rattle.printed.proofs.ThreeLines.{numbers-free, linesOf-one, three-lines, differBytes, differ-free, differ-words}
 
 module _ (f₁ f₂ : List ℕ) (o : opened f₁ f₂ .refusal .number ≡ 0) where
   abbrev place : ℕ
@@ -45,14 +45,14 @@ module _ (f₁ f₂ : List ℕ) (o : opened f₁ f₂ .refusal .number ≡ 0) wh
 
   -- some place does
   module _ (l : place < G) where
-    answered : Settled f₁ f₂ (differsAnswer f₁ f₂ (digitsAt (axesOf (sizesOf f₁)) place) 0)
+    answered : Settled f₁ f₂ (differsAnswer f₁ f₂ (gridVector (sizesOf f₁) place) 0)
     answered = settled f₁ f₂ (pair-accepted f₁ f₂ o) _ (differs 0 l refl)
 
     pub not-equal : ¬ AllEqual f₁ f₂
     unfolding differsAnswer
     not-equal all = let e = answered .equivalent .1 all in let q : _≡_ {A = ℕ} 0 1 = cc in omega arith
 
-    shows : ShowsFirst f₁ f₂ (differsAnswer f₁ f₂ (digitsAt (axesOf (sizesOf f₁)) place) 0)
+    shows : ShowsFirst f₁ f₂ (differsAnswer f₁ f₂ (gridVector (sizesOf f₁) place) 0)
     unfolding differsAnswer
     shows = answered .differs refl
 
@@ -115,8 +115,8 @@ refuses r =
     let ns = r .number ∷ r .file ∷ r .step ∷ [] in
     record {
       line = words "refused" ns;
-      split = linesOf-one (words "refused" ns) (free-append lineFeed (ascii "refused") (spaced ns) refl (free-spaced ns));
-      words = pieces-words (ascii "refused") ns refl;
+      split = linesOf-one (words "refused" ns) (numbers-free (ascii "refused") ns refl);
+      words = pieces-words decimal free-decimal (ascii "refused") ns refl;
     }
 
 pub refusedLine : RefusedLine

@@ -6,12 +6,13 @@ use mathlib.Core.Logic.{inl, inr}
 use mathlib.Core.List.{List}
 use Prim.Native.Nat.{ℕ}
 use native.Mathlib.Omega.{arith}
-use lib.ListN.{take}
+use Rattle.evaluate.specs.Evaluate.{vectorOf}
 use Rattle.fields.specs.File.{sizesOf}
 use Rattle.sessions.specs.Session.{opened}
 use Rattle.sessions.specs.declared.Answer.{Answer}
 use Rattle.sessions.specs.declared.Kind.{Kind}
 use Rattle.sessions.specs.declared.Kind.the-variants.{Equivalent, Differs}
+use Rattle.sizes.specs.declared.Sizes.{Sizes}
 use Rattle.printed.specs.Claims.{ThreeLines, Shows, ShownAsIs, NoText}
 use Rattle.printed.specs.Report.{shownText, concluded, reportOf}
 use Rattle.text.specs.Text.{ascii, lineFeed, line}
@@ -31,19 +32,19 @@ noText =
     }
 
 -- the line of the verdict, by the kind of the answer
-module _ (d : ℕ) (a : Answer) where
-  pub line-equivalent : a .kind ≡ Equivalent → shownText (a .kind) d a ≡ equivalentLine
+module _ (z : Sizes) (a : Answer) where
+  pub line-equivalent : a .kind ≡ Equivalent → shownText (a .kind) z a ≡ equivalentLine
   unfolding shownText
-  line-equivalent e = ap (λ (k : Kind). shownText k d a) e
+  line-equivalent e = ap (λ (k : Kind). shownText k z a) e
 
-  pub line-differs : a .kind ≡ Differs → shownText (a .kind) d a ≡ differLine (take d (a .vector)) (a .output1) (a .output2)
+  pub line-differs : a .kind ≡ Differs → shownText (a .kind) z a ≡ differLine (vectorOf z (a .vector)) (a .output1) (a .output2)
   unfolding shownText
-  line-differs e = ap (λ (k : Kind). shownText k d a) e
+  line-differs e = ap (λ (k : Kind). shownText k z a) e
 
 module _ (f₁ f₂ : List ℕ) (o : opened f₁ f₂ .refusal .number ≡ 0) (a : Answer) (n : ℕ) where
   -- with the verdict's line given
   with-line :
-      (v : List ℕ) → shownText (a .kind) (sizesOf f₁ .d) a ≡ line v → free lineFeed v ≡ true → ThreeLines f₁ n v (concluded f₁ f₂ a n)
+      (v : List ℕ) → shownText (a .kind) (sizesOf f₁) a ≡ line v → free lineFeed v ≡ true → ThreeLines f₁ n v (concluded f₁ f₂ a n)
   with-line v shown one = rw (concluded-lines f₁ f₂ o a n, shown) (three-lines f₁ v n one)
 
   shows-equivalent : a .kind ≡ Equivalent → Shows f₁ a n (reportOf f₁ f₂ a n)
@@ -51,7 +52,7 @@ module _ (f₁ f₂ : List ℕ) (o : opened f₁ f₂ .refusal .number ≡ 0) (a
   shows-equivalent e =
       rw (report-equivalent f₁ f₂ a n e) (record {
         verdict = ascii "equivalent";
-        lines = with-line (ascii "equivalent") (line-equivalent (sizesOf f₁ .d) a e) refl;
+        lines = with-line (ascii "equivalent") (line-equivalent (sizesOf f₁) a e) refl;
         equivalent = λ _. refl;
         differs = λ q. absurd (let z : _≡_ {A = ℕ} 0 1 = cc in omega arith);
       })
@@ -59,11 +60,11 @@ module _ (f₁ f₂ : List ℕ) (o : opened f₁ f₂ .refusal .number ≡ 0) (a
   shows-differs : a .kind ≡ Differs → Shows f₁ a n (reportOf f₁ f₂ a n)
   unfolding differLine
   shows-differs e =
-      let x = take (sizesOf f₁ .d) (a .vector) in
+      let x = vectorOf (sizesOf f₁) (a .vector) in
       rw (report-differs f₁ f₂ a n e) (record {
         verdict = differBytes x (a .output1) (a .output2);
         lines =
-            with-line (differBytes x (a .output1) (a .output2)) (line-differs (sizesOf f₁ .d) a e)
+            with-line (differBytes x (a .output1) (a .output2)) (line-differs (sizesOf f₁) a e)
             (differ-free x (a .output1) (a .output2));
         equivalent = λ q. absurd (let z : _≡_ {A = ℕ} 0 1 = cc in omega arith);
         differs = λ _. differ-words x (a .output1) (a .output2);

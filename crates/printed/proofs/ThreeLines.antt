@@ -4,26 +4,33 @@ use mathlib.Core.Path.{_≡_, refl, _∙_, ap}
 use mathlib.Core.Bool.{true}
 use mathlib.Core.List.{List, [], _∷_, _++_, map, append-assoc}
 use Prim.Native.Nat.{ℕ}
+use lib.IntN.{ℤ}
 use Rattle.fields.specs.File.{sizesOf}
 use Rattle.grid.specs.Grid.{axesOf, gridSize}
 use Rattle.printed.specs.Claims.{differWords, ThreeLines}
-use Rattle.text.specs.Decimal.{decimal}
+use Rattle.text.specs.Decimal.{decimal, integer}
 use Rattle.printed.specs.Report.{gridText}
-use Rattle.text.specs.Text.{ascii, lineFeed, space, line, spaced, words, pieces, linesOf, wordsOf}
+use Rattle.text.specs.Text.{ascii, lineFeed, space, line, spacedBy, spaced, spacedIntegers, words, pieces, linesOf, wordsOf}
 use Rattle.printed.specs.Lines.{gridLine, runLine}
-use Rattle.text.proofs.Pieces.{free, free-append, free-spaced, pieces-at, pieces-line, pieces-words, pieces-words-rest}
+use Rattle.text.proofs.Pieces.{free, OneWord, free-append, free-decimal, free-integer, free-spaced, pieces-at, pieces-line, pieces-words, pieces-words-rest}
 
--- words with two signs have no line feed
-two-free : (x ns y ms : List ℕ) → free lineFeed x ≡ true → free lineFeed y ≡ true → free lineFeed (x ++ spaced ns ++ (y ++ spaced ms)) ≡ true
-two-free x ns y ms h k =
-    free-append lineFeed (x ++ spaced ns) (y ++ spaced ms) (free-append lineFeed x (spaced ns) h (free-spaced ns))
-    (free-append lineFeed y (spaced ms) k (free-spaced ms))
+-- a word and numbers have no line feed
+pub numbers-free : (w ns : List ℕ) → free lineFeed w ≡ true → free lineFeed (w ++ spaced ns) ≡ true
+numbers-free w ns h = free-append lineFeed w (spaced ns) h (free-spaced decimal free-decimal ns)
 
--- the words on both sides of a sign
-two-words :
-    (w ns v ms : List ℕ) → free space w ≡ true → free space v ≡ true →
-    pieces space (w ++ spaced ns ++ (space ∷ v ++ spaced ms)) ≡ (w ∷ map decimal ns) ++ (v ∷ map decimal ms)
-two-words w ns v ms h k = pieces-words-rest w ns (v ++ spaced ms) h ∙ ap (λ (ps : List (List ℕ)). (w ∷ map decimal ns) ++ ps) (pieces-words v ms k)
+-- a word and entries, and a sign and numbers after them
+module _ {A : Type 0} (f : A → List ℕ) (one : OneWord f) (w : List ℕ) (xs : List A) (v ns : List ℕ) where
+  two-free : free lineFeed w ≡ true → free lineFeed v ≡ true → free lineFeed (w ++ spacedBy f xs ++ (v ++ spaced ns)) ≡ true
+  two-free h k =
+      free-append lineFeed (w ++ spacedBy f xs) (v ++ spaced ns) (free-append lineFeed w (spacedBy f xs) h (free-spaced f one xs))
+      (numbers-free v ns k)
+
+  two-words :
+      free space w ≡ true → free space v ≡ true →
+      pieces space (w ++ spacedBy f xs ++ (space ∷ v ++ spaced ns)) ≡ (w ∷ map f xs) ++ (v ∷ map decimal ns)
+  two-words h k =
+      pieces-words-rest f one w xs (v ++ spaced ns) h
+      ∙ ap (λ (ps : List (List ℕ)). (w ∷ map f xs) ++ ps) (pieces-words decimal free-decimal v ns k)
 
 -- a line alone, and three lines
 pub linesOf-one : (r : List ℕ) → free lineFeed r ≡ true → linesOf (line r) ≡ r ∷ [] ∷ []
@@ -52,20 +59,20 @@ three-lines f₁ v n one =
       third = words "run" (n ∷ []);
       split =
           linesOf-three (gridBytes f₁) v (words "run" (n ∷ []))
-          (two-free (ascii "grid") us (ascii " =") (G ∷ []) refl refl)
+          (two-free decimal free-decimal (ascii "grid") us (ascii " =") (G ∷ []) refl refl)
           one
-          (free-append lineFeed (ascii "run") (spaced (n ∷ [])) refl (free-spaced (n ∷ [])));
-      grid = two-words (ascii "grid") us (ascii "=") (G ∷ []) refl refl;
-      run = pieces-words (ascii "run") (n ∷ []) refl;
+          (numbers-free (ascii "run") (n ∷ []) refl);
+      grid = two-words decimal free-decimal (ascii "grid") us (ascii "=") (G ∷ []) refl refl;
+      run = pieces-words decimal free-decimal (ascii "run") (n ∷ []) refl;
     }
 
 -- the line of a difference, before its line feed
-module _ (x : List ℕ) (o₁ o₂ : ℕ) where
+module _ (x : List ℤ) (o₁ o₂ : ℕ) where
   abbrev pub differBytes : List ℕ
-  differBytes = words "differ" x ++ words " :" (o₁ ∷ o₂ ∷ [])
+  differBytes = ascii "differ" ++ spacedIntegers x ++ words " :" (o₁ ∷ o₂ ∷ [])
 
   pub differ-free : free lineFeed differBytes ≡ true
-  differ-free = two-free (ascii "differ") x (ascii " :") (o₁ ∷ o₂ ∷ []) refl refl
+  differ-free = two-free integer free-integer (ascii "differ") x (ascii " :") (o₁ ∷ o₂ ∷ []) refl refl
 
   pub differ-words : wordsOf differBytes ≡ differWords x o₁ o₂
-  differ-words = two-words (ascii "differ") x (ascii ":") (o₁ ∷ o₂ ∷ []) refl refl
+  differ-words = two-words integer free-integer (ascii "differ") x (ascii ":") (o₁ ∷ o₂ ∷ []) refl refl

@@ -1,7 +1,7 @@
 -- What is claimed of the texts. Each statement is proved in proofs/, under the same name with a small first letter. A text is taken apart here by its
 -- bytes alone (`linesOf`, `wordsOf` in text specs/Text), so that no definition of a line has to be believed.
 --   AllEqual f₁ f₂       the outputs are equal at every full-width vector
---   differWords x o₁ o₂  the words of a difference: at the vector x, with the outputs o₁ and o₂
+--   differWords x o₁ o₂  the words of a difference: at the vector x of integers, with the outputs o₁ and o₂
 --   DifferLine f₁ f₂ l   the line l shows the first of all full-width vectors at which the outputs differ, and both outputs there
 --   ThreeLines f₁ n l t  the text t is three lines: the grid of f₁, the line l, and n as the vectors run
 --   Tells f₁ f₂ text     the text is three lines: the grid, the verdict and the vectors run
@@ -9,7 +9,7 @@
 --   Refuses r text       the text is one line: refused, and the number, the file and the step of the refusal r
 --   RefusedLine          what is printed of two files whose opening is refused is that line of its refusal
 --   RefusedText          the text of any answer that refuses is that line of its refusal
---   Shows f₁ a n text    the text is three lines: the grid, the verdict that the answer a gives, with its words as they are, and n
+--   Shows f₁ a n text    the text is three lines: the grid, the verdict that the answer a gives, with what its words say, and n
 --   ShownAsIs            the text of any verdict on two files whose opening is accepted shows that
 --   NoText               a spent answer has no text, nor has a verdict on files whose opening is refused
 --   ReportedInFull       where a call of a list that demand 3 is about gives a verdict, the text of its answer is what is printed of the files
@@ -20,32 +20,33 @@ use mathlib.Core.Path.{_≡_}
 use mathlib.Core.Logic.{_↔_}
 use mathlib.Core.List.{List, [], _∷_, _++_, map}
 use Prim.Native.Nat.{ℕ, _^_, _≤_, _<_}
-use lib.ListN.{length, getD, take}
-use Rattle.evaluate.specs.Evaluate.{outputOf}
+use lib.IntN.{ℤ}
+use lib.ListN.{length, getD}
+use Rattle.evaluate.specs.Evaluate.{outputOf, vectorOf}
 use Rattle.fields.specs.File.{sizesOf}
 use Rattle.fields.specs.Steps.{stepsOf}
-use Rattle.grid.specs.Grid.{widthsOf, axesOf, gridSize}
+use Rattle.grid.specs.Grid.{axesOf, gridSize}
 use Rattle.sessions.specs.Calls.{Call, answerTo, sessionAfter, answers, IsVerdict, vectorsRun}
 use Rattle.sessions.specs.Demand3.{Allowed, stop, FullWidth, start}
 use Rattle.sessions.specs.Session.{opened, continued}
 use Rattle.sessions.specs.declared.Answer.{Answer}
 use Rattle.sessions.specs.declared.Kind.the-variants.{Refused, Spent, Equivalent, Differs}
-use Rattle.sizes.specs.Sizes.{maxInputs}
+use Rattle.sizes.specs.Sizes.{maxInputs, formatsOf}
 use Rattle.sizes.specs.declared.Refusal.{Refusal}
 use Rattle.grid_theorem.specs.Comparison.{IsFirst}
-use Rattle.text.specs.Decimal.{decimal}
+use Rattle.text.specs.Decimal.{decimal, integer}
 use Rattle.printed.specs.Report.{printed, reportOf, textRoom}
 use Rattle.text.specs.Text.{ascii, linesOf, wordsOf}
 
 abbrev pub AllEqual : List ℕ → List ℕ → Type 0
-AllEqual f₁ f₂ = (x : List ℕ) → FullWidth f₁ x → outputOf f₁ x ≡ outputOf f₂ x
+AllEqual f₁ f₂ = (x : List ℤ) → FullWidth f₁ x → outputOf f₁ x ≡ outputOf f₂ x
 
-abbrev pub differWords : List ℕ → ℕ → ℕ → List (List ℕ)
-differWords x o₁ o₂ = ascii "differ" ∷ map decimal x ++ ascii ":" ∷ decimal o₁ ∷ decimal o₂ ∷ []
+abbrev pub differWords : List ℤ → ℕ → ℕ → List (List ℕ)
+differWords x o₁ o₂ = ascii "differ" ∷ map integer x ++ ascii ":" ∷ decimal o₁ ∷ decimal o₂ ∷ []
 
 pub record DifferLine (f₁ f₂ line : List ℕ) : Type 0 where
-  pub vector : List ℕ
-  pub first : IsFirst (sizesOf f₁ .m) (widthsOf (sizesOf f₁)) (stepsOf f₁) (stepsOf f₂) vector
+  pub vector : List ℤ
+  pub first : IsFirst (sizesOf f₁ .m) (formatsOf (sizesOf f₁)) (stepsOf f₁) (stepsOf f₂) vector
   pub words : wordsOf line ≡ differWords vector (outputOf f₁ vector) (outputOf f₂ vector)
 
 pub record ThreeLines (f₁ : List ℕ) (n : ℕ) (second text : List ℕ) : Type 0 where
@@ -90,8 +91,8 @@ pub record Shows (f₁ : List ℕ) (a : Answer) (n : ℕ) (text : List ℕ) : Ty
   pub lines : ThreeLines f₁ n verdict text
   -- that one word where the kind is Equivalent
   pub equivalent : a .kind ≡ Equivalent → verdict ≡ ascii "equivalent"
-  -- where it is Differs, the first d entries of the answer's vector, and its two outputs
-  pub differs : a .kind ≡ Differs → wordsOf verdict ≡ differWords (take (sizesOf f₁ .d) (a .vector)) (a .output1) (a .output2)
+  -- where it is Differs, the values that the words of the answer's vector give to the d inputs, and its two outputs
+  pub differs : a .kind ≡ Differs → wordsOf verdict ≡ differWords (vectorOf (sizesOf f₁) (a .vector)) (a .output1) (a .output2)
 
 abbrev pub ShownAsIs : Type 0
 ShownAsIs =

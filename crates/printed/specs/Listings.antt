@@ -1,6 +1,7 @@
 -- Texts that are to be printed, byte by byte.
 --   Listing       two files, and the text that is to be printed of them
---   listingTable  the table: document 01's files a.dp and b.dp ('Pairs'), b.dp with itself, two empty files, and two files of ten inputs
+--   listingTable  the table: document 01's files a.dp and b.dp ('Pairs'), b.dp with itself, two empty files, two files of ten inputs, and with
+--                 signed inputs two constants, and a.dp and b.dp
 --   Listings      each text is what is printed
 --   RefusedPair   two files that are refused, with the refusal's number, file and step
 --   refusedTable  the table: document 01's files, damaged so that each of 1 to 9 refuses one or the other, and so that two conditions hold
@@ -47,6 +48,10 @@ ten-product =
 unfoldable pub ten-zero : List ℕ
 ten-zero = (0x02 ∷ 0x0a ∷ 0x01 ∷ 0x00 ∷ ten-widths) ++ (0x02 ∷ []) ++ replicate 8 0x00
 
+-- the constant c with m 8 and one signed input of 8 bits
+unfoldable pub signed-constant : ℕ → List ℕ
+signed-constant c = (0x08 ∷ 0x01 ∷ 0x01 ∷ 0x00 ∷ 0x88 ∷ replicate 7 0x00) ++ (0x02 ∷ []) ++ (c ∷ replicate 7 0x00)
+
 unfoldable pub listingTable : List Listing
 listingTable =
     -- grid 2 4 = 8, differ 1 1 : 1 0, run 6
@@ -85,6 +90,24 @@ listingTable =
           ++ (0x20 ∷ 0x30 ∷ 0x20 ∷ 0x30 ∷ 0x20 ∷ 0x30 ∷ 0x20 ∷ 0x30 ∷ 0x20 ∷ 0x30 ∷ 0x20 ∷ 0x30 ∷ 0x20 ∷ 0x30 ∷ 0x20 ∷ 0x30 ∷ [])
           ++ (0x20 ∷ 0x31 ∷ 0x20 ∷ 0x31 ∷ 0x20 ∷ 0x3a ∷ 0x20 ∷ 0x31 ∷ 0x20 ∷ 0x30 ∷ 0x0a ∷ [])
           ++ (0x72 ∷ 0x75 ∷ 0x6e ∷ 0x20 ∷ 0x36 ∷ 0x0a ∷ []);
+    }
+    -- grid 10 = 10, differ -128 : 5 4, run 1
+    ∷ record {
+      file₁ = signed-constant 0x05;
+      file₂ = signed-constant 0x04;
+      text =
+          (0x67 ∷ 0x72 ∷ 0x69 ∷ 0x64 ∷ 0x20 ∷ 0x31 ∷ 0x30 ∷ 0x20 ∷ 0x3d ∷ 0x20 ∷ 0x31 ∷ 0x30 ∷ 0x0a ∷ [])
+          ++ (0x64 ∷ 0x69 ∷ 0x66 ∷ 0x66 ∷ 0x65 ∷ 0x72 ∷ 0x20 ∷ 0x2d ∷ 0x31 ∷ 0x32 ∷ 0x38 ∷ 0x20 ∷ 0x3a ∷ 0x20 ∷ 0x35 ∷ 0x20 ∷ 0x34 ∷ 0x0a ∷ [])
+          ++ (0x72 ∷ 0x75 ∷ 0x6e ∷ 0x20 ∷ 0x31 ∷ 0x0a ∷ []);
+    }
+    -- x1 is 0 or 1, and x2 is signed, -2 to 1: grid 2 4 = 8, differ 1 -2 : 2 0, run 5
+    ∷ record {
+      file₁ = set a·dp 5 0x82;
+      file₂ = set b·dp 5 0x82;
+      text =
+          (0x67 ∷ 0x72 ∷ 0x69 ∷ 0x64 ∷ 0x20 ∷ 0x32 ∷ 0x20 ∷ 0x34 ∷ 0x20 ∷ 0x3d ∷ 0x20 ∷ 0x38 ∷ 0x0a ∷ [])
+          ++ (0x64 ∷ 0x69 ∷ 0x66 ∷ 0x66 ∷ 0x65 ∷ 0x72 ∷ 0x20 ∷ 0x31 ∷ 0x20 ∷ 0x2d ∷ 0x32 ∷ 0x20 ∷ 0x3a ∷ 0x20 ∷ 0x32 ∷ 0x20 ∷ 0x30 ∷ 0x0a ∷ [])
+          ++ (0x72 ∷ 0x75 ∷ 0x6e ∷ 0x20 ∷ 0x35 ∷ 0x0a ∷ []);
     }
     ∷ []
 
@@ -125,6 +148,10 @@ refusedTable =
     ∷ refused (set a·dp 5 65) b·dp 5 1 0
     ∷ refused b·dp (set b·dp 11 1) 5 2 0
     ∷ refused (set (set a·dp 2 0) 5 65) b·dp 4 1 0
+    -- 5. n2 is signed, and 0 or 65 bits long; an unused byte is the mark alone
+    ∷ refused (set a·dp 5 0x80) b·dp 5 1 0
+    ∷ refused b·dp (set b·dp 5 0xc1) 5 2 0
+    ∷ refused b·dp (set b·dp 11 0x80) 5 2 0
     -- 5. n10 is 2, and d is 9; 6. the length is that of a head of 12 bytes and 9N, and d is 10
     ∷ refused (set ten-product 1 9) b·dp 5 1 0
     ∷ refused (take 39 ten-product) b·dp 6 1 0
@@ -141,6 +168,9 @@ refusedTable =
     -- 9. m is 3 in file 2, n2 is 3 in file 2
     ∷ refused a·dp (set b·dp 0 3) 9 0 0
     ∷ refused a·dp (set b·dp 5 3) 9 0 0
+    -- n2 is 2 in both files, and signed in one of them
+    ∷ refused a·dp (set b·dp 5 0x82) 9 0 0
+    ∷ refused (set a·dp 5 0x82) b·dp 9 0 0
     -- n10 is 1 in file 2
     ∷ refused ten-product (set ten-zero 13 1) 9 0 0
     ∷ []

@@ -26,9 +26,9 @@ fn put_comparison(text: &mut [u8], file1: &[u8], file2: &[u8], answer: Answer, r
     if refusal.number != 0 {
         return 0;
     }
-    let d = read_sizes(file1).d as usize;
+    let sizes = read_sizes(file1);
     let second = put_grid(text, 0, file1);
-    let third = put_verdict(text, second, d, answer);
+    let third = put_verdict(text, second, sizes, answer);
     put_run(text, third, run)
 }
 

@@ -4,8 +4,10 @@ use grid::grid_of;
 use sessions::Answer;
 use sessions::Kind;
 use sizes::Refusal;
+use sizes::Sizes;
 use writing::put_bytes;
 use writing::put_halves;
+use writing::put_values;
 use writing::put_words;
 ghost use Prim.Native.Nat.{_≤_};
 ghost use Rattle.file.specs.Accepted.{Accepted};
@@ -37,29 +39,34 @@ pub fn put_grid(text: &mut [u8], at: usize, file: &[u8]) -> usize
     put_halves(text, at, b"grid", &axes[..d], b" =", &size)
 }
 
-// The line of a difference: the first d entries of the vector, and both outputs.
-fn put_difference(text: &mut [u8], at: usize, d: usize, answer: Answer) -> usize
-    requires { ⌜ d ≤ maxInputs ⌝ }
-    requires { ⌜ RoomFor (shownText Kind.Differs d answer) (now text) at ⌝ }
-    ensures { λ r. ⌜ Put (shownText Kind.Differs d answer) (now (text .entry)) (now (text .exit)) at r ⌝ }
+// The line of a difference on files of these sizes: the values that the words of the vector give to the d inputs, and
+// both outputs.
+fn put_difference(text: &mut [u8], at: usize, sizes: Sizes, answer: Answer) -> usize
+    requires { ⌜ sizes .d ≤ maxInputs ⌝ }
+    requires { ⌜ RoomFor (shownText Kind.Differs sizes answer) (now text) at ⌝ }
+    ensures { λ r. ⌜ Put (shownText Kind.Differs sizes answer) (now (text .entry)) (now (text .exit)) at r ⌝ }
 {
+    let d = sizes.d as usize;
+    let widths = sizes.widths;
     let vector = answer.vector;
     let outputs = [answer.output1, answer.output2];
-    put_halves(text, at, b"differ", &vector[..d], b" :", &outputs)
+    let values = put_bytes(text, at, b"differ");
+    let sign = put_values(text, values, &widths[..d], &vector);
+    put_words(text, sign, b" :", &outputs, b"\n")
 }
 
-// The line of the verdict that an answer gives on d inputs; nothing where it gives none.
-pub fn put_verdict(text: &mut [u8], at: usize, d: usize, answer: Answer) -> usize
-    requires { ⌜ d ≤ maxInputs ⌝ }
-    requires { ⌜ RoomFor (shownText (answer .kind) d answer) (now text) at ⌝ }
-    ensures { λ r. ⌜ Put (shownText (answer .kind) d answer) (now (text .entry)) (now (text .exit)) at r ⌝ }
+// The line of the verdict that an answer gives on files of these sizes; nothing where it gives none.
+pub fn put_verdict(text: &mut [u8], at: usize, sizes: Sizes, answer: Answer) -> usize
+    requires { ⌜ sizes .d ≤ maxInputs ⌝ }
+    requires { ⌜ RoomFor (shownText (answer .kind) sizes answer) (now text) at ⌝ }
+    ensures { λ r. ⌜ Put (shownText (answer .kind) sizes answer) (now (text .entry)) (now (text .exit)) at r ⌝ }
 {
     let kind = answer.kind;
     match kind {
         Kind::Refused => at,
         Kind::Spent => at,
         Kind::Equivalent => put_bytes(text, at, b"equivalent\n"),
-        Kind::Differs => put_difference(text, at, d, answer),
+        Kind::Differs => put_difference(text, at, sizes, answer),
     }
 }
 

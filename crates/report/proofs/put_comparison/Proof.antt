@@ -50,30 +50,27 @@ accepted c = sym (opened-number (c .before .before .before)) ∙ c .if1 .left
 three : (c : tie.After-read-sizes) →
     let a = sized c .args in
     concluded (now (a .file1)) (now (a .file2)) (a .answer) (a .run) ≡
-    gridText (now (a .file1)) ++ shownText (a .answer .kind) (c .read-sizes .result .d) (a .answer) ++ runLine (a .run)
+    gridText (now (a .file1)) ++ shownText (a .answer .kind) (c .read-sizes .result) (a .answer) ++ runLine (a .run)
 three c = rw (c .read-sizes .ensures) (concluded-lines _ _ (accepted (c .before)) _ _)
 
 room : (c : tie.After-read-sizes) →
     let a = sized c .args in
-    RoomFor (gridText (now (a .file1)) ++ shownText (a .answer .kind) (c .read-sizes .result .d) (a .answer) ++ runLine (a .run))
+    RoomFor (gridText (now (a .file1)) ++ shownText (a .answer .kind) (c .read-sizes .result) (a .answer) ++ runLine (a .run))
     (now (a .text)) 0
 room c = rw (three c) at (sized c .pre)
 
 read-sizes-requires : tie.Need-read-sizes-requires
 read-sizes-requires c κs = first-accepted _ _ (accepted c) .long
 
-cast-d : tie.Need-cast-d
-cast-d c = search needs
-
 put-grid-requires : tie.Need-put-grid-requires
 put-grid-requires c κs =
-    let sizes = c .before .before in
+    let sizes = c .before in
     (first-accepted _ _ (accepted (sizes .before)), room-first _ _ (room-first _ _ (room sizes)))
 
 put-verdict-requires : tie.Need-put-verdict-requires
 put-verdict-requires c κs =
     let first = c .before .before .before in
-    let sizes = first .before .before .before in (
+    let sizes = first .before .before in (
       omega (arith, first-accepted _ _ (accepted (sizes .before)) .inputsHigh, ap (λ (z : Sizes). z .d) (sizes .read-sizes .ensures)),
       room-second (room-first _ _ (room sizes)) (first .put-grid .ensures),
     )
@@ -81,18 +78,18 @@ put-verdict-requires c κs =
 -- the first two lines, at the index after them
 two : (c : tie.After-put-verdict) →
     let first = c .before .before .before .before in
-    let sizes = first .before .before .before in
+    let sizes = first .before .before in
     let a = sized sizes .args in
-    Put (gridText (now (a .file1)) ++ shownText (a .answer .kind) (sizes .read-sizes .result .d) (a .answer))
+    Put (gridText (now (a .file1)) ++ shownText (a .answer .kind) (sizes .read-sizes .result) (a .answer))
     (now (a .text)) (c .put-verdict .last .0) 0 (c .put-verdict .result)
 two c =
     let first = c .before .before .before .before in
-    put-then (room-first _ _ (room (first .before .before .before))) (first .put-grid .ensures) (c .put-verdict .ensures)
+    put-then (room-first _ _ (room (first .before .before))) (first .put-grid .ensures) (c .put-verdict .ensures)
 
 put-run-requires : tie.Need-put-run-requires
 put-run-requires c κs =
     let second = c .before .before .before in
-    room-second (room (second .before .before .before .before .before .before .before)) (two second)
+    room-second (room (second .before .before .before .before .before .before)) (two second)
 
 same-length : tie.Need-same-length
 same-length c = search needs
@@ -100,7 +97,7 @@ same-length c = search needs
 returns-2 : tie.Need-returns-2
 returns-2 c =
     let second = c .before .before .before .before .before .before in
-    let sizes = second .before .before .before .before .before .before .before in
+    let sizes = second .before .before .before .before .before .before in
     rw (three sizes) (put-then (room sizes) (two second) (c .before .before .put-run .ensures))
 
 pub put-comparison-spec : {M : Type 1} → statement M
@@ -110,7 +107,6 @@ put-comparison-spec =
     open-session-requires
     returns
     read-sizes-requires
-    cast-d
     put-grid-requires
     put-verdict-requires
     put-run-requires

@@ -32,7 +32,7 @@ enum-told-4 c = search needs
 put-difference-requires : tie.Need-put-difference-requires
 put-difference-requires c κs =
     let s = c .before .before .before .before in
-    let shown = ap (λ (k : Kind). shownText k (s .args .d) (s .args .answer)) (c .before .enum-told4 .given .1) in
+    let shown = ap (λ (k : Kind). shownText k (s .args .sizes) (s .args .answer)) (c .before .enum-told4 .given .1) in
     (s .pre .0, rw shown at (s .pre .1))
 
 returns : tie.Need-returns
@@ -57,7 +57,7 @@ returns-4 : tie.Need-returns-4
 returns-4 c =
     let arm = c .before .before .before .before in
     let s = arm .before .before .before in
-    let shown = ap (λ (k : Kind). shownText k (s .args .d) (s .args .answer)) (arm .enum-told4 .given .1) in
+    let shown = ap (λ (k : Kind). shownText k (s .args .sizes) (s .args .answer)) (arm .enum-told4 .given .1) in
     rw shown (c .before .before .put-difference .ensures)
 
 pub put-verdict-spec : {M : Type 1} → statement M

@@ -6,8 +6,8 @@ use mathlib.Core.Path.{_≡_, refl, sym, _∙_, ap, subst}
 use Prim.Native.Nat.{ℕ, _+_, _-_, _^_, _≤_, _<_, min}
 use native.Mathlib.Decide.{ℕ-discrete, decLe}
 use native.Mathlib.Omega.{arith}
-use lib.ListN.{length, getD, take, drop, replicate, length-take, List·getD-append, List·getD-eq-default}
-use lib.Seq.{take-at, getD-at, getD-take, getD-drop}
+use lib.ListN.{length, getD, take, drop, replicate, List·getD-append, List·getD-eq-default}
+use lib.Seq.{take-at, getD-at, getD-drop}
 use borrow.Author.Tests.{eq-eqb, ne-eqb}
 use Rattle.bound.specs.Axes.{axis}
 use Rattle.bound.specs.Bound.{IsBound, bound}
@@ -18,6 +18,7 @@ use Rattle.bound.proofs.Quotients.{boundExponents}
 use Rattle.evaluate.specs.Evaluate.{refusalAt, evaluatedAt, evaluatedScratch}
 use Rattle.evaluate.specs.declared.Evaluated.{Evaluated as Answer}
 use Rattle.evaluate.proofs.Answers.{answer-accepted}
+use Rattle.evaluate.proofs.Taken.{evaluateExactly, fullVectorWidth}
 use Rattle.figures.specs.Figures.{figuresOf, boundAnswered, boundRefused}
 use Rattle.figures.specs.declared.Figures.{Figures}
 use Rattle.figures.proofs.Exactly.{figures-inside, figures-outside}
@@ -50,9 +51,10 @@ use Rattle.sessions.specs.Session.{continueRefusal}
 use Rattle.sessions.proofs.Cases.{scratch-accepted as session-scratch}
 use Rattle.sessions.proofs.Step.{answer-refusal}
 use Rattle.sizes.specs.Padded.{padded}
-use Rattle.sizes.specs.Sizes.{maxInputs, accepted, isRefusal}
+use Rattle.sizes.specs.Sizes.{maxInputs, formatAt, formatsOf, accepted, isRefusal}
 use Rattle.sizes.specs.declared.Refusal.{Refusal}
 use Rattle.sizes.specs.declared.Sizes.{Sizes}
+use Rattle.sizes.proofs.Formats.{length-formats, format-entry}
 use Rattle.sizes.proofs.Judged.{number-of}
 use Rattle.table_calls.specs.TableCalls.{cellsFit, TableCall, DifferenceCall, SumCall}
 use Rattle.cells.specs.Cells.{cellsRefusal}
@@ -194,16 +196,18 @@ module _ (f o o′ : List ℕ) (h : GridCall f o 1 o′) where
         ∙ List·getD-append (padded us) (gridSize (sizesOf f) ∷ []) 0 i (omega (arith, length-words))
         ∙ padded-entry us i
 
+    known : sizesOf f .d ≤ length (sizesOf f .widths)
+    known = omega (arith, length-widths f, sound .inputsHigh)
+
     axes-smaller :
-        (i : ℕ) → i < sizesOf f .d → (l : ℕ) → IsBound (sizesOf f .m) l → wordAt o′ (atAxes + i) ≡ min (2 ^ getD (sizesOf f .widths) i 0) l
+        (i : ℕ) → i < sizesOf f .d → (l : ℕ) → IsBound (sizesOf f .m) l → wordAt o′ (atAxes + i) ≡ min (2 ^ formatAt (sizesOf f) i .length) l
     unfolding axesOf
     axes-smaller i h l b =
         let z = sizesOf f in
         word-entry i (omega (arith, sound .inputsHigh))
-        ∙ map-entry (axis (z .m)) (take (z .d) (z .widths)) i
-        (simp length-take (omega (arith, h, length-widths f, sound .inputsHigh)))
-        ∙ ap (axis (z .m)) (getD-take (z .d) (z .widths) i 0 h)
-        ∙ axisByLeast (z .m) (getD (z .widths) i 0) l b
+        ∙ map-entry (axis (z .m)) (formatsOf z) i (formatAt z i) 0 (omega (arith, h, length-formats z known))
+        ∙ ap (axis (z .m)) (format-entry z known i (formatAt z i) h)
+        ∙ axisByLeast (z .m) (formatAt z i) l b
 
     others-zero : (i : ℕ) → sizesOf f .d ≤ i → i < maxInputs → wordAt o′ (atAxes + i) ≡ 0
     others-zero i low high = word-entry i high ∙ List·getD-eq-default us 0 (omega (arith, axes-count))
@@ -226,7 +230,10 @@ module _ (f x s o s′ o′ : List ℕ) (h : EvaluateCall f x s o 1 s′ o′) (
   evaluated : Evaluated f x s s′ o′
   evaluated =
       let p = answer-accepted f x s evaluate-number in
+      let t = evaluateExactly f x (length s) .0 evaluate-number in
+      let known : sizesOf f .d ≤ length (sizesOf f .widths) = omega (arith, length-widths f, t .file .inputsHigh) in
       record {
+        vector = fullVectorWidth (sizesOf f) x known (t .vector .count) .0 (t .vector);
         output = ap (λ l. wordAt l 3) evaluate-said ∙ ap (λ (a : Answer). a .output) (sym (p .0));
         scratch = wrote (has 4 o) (evaluatedScratch f x s) s s′ (h .result) (h .scratch) ∙ sym (p .1);
       }

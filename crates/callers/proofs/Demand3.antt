@@ -1,19 +1,20 @@
 -- Demand 3 for a caller in C: the library's demand 3 of the list of calls that the chain makes, read off the words. The words of a session
 -- and of an answer give back the session and the answer. Assumes nothing.
 use mathlib.Core.Bool.{true}
-use mathlib.Core.List.{List, _∷_, _++_}
+use mathlib.Core.List.{List, _∷_, _++_, map}
 use mathlib.Core.Logic.{_⊎_, inl, inr, ⊎-elim, _↔_}
 use mathlib.Core.Path.{_≡_, refl, sym, _∙_, ap, subst}
-use Prim.Native.Nat.{ℕ, _+_, _<_, _≤_}
+use Prim.Native.Nat.{ℕ, _+_, _-_, _<_, _≤_}
 use native.Mathlib.Omega.{arith}
 use borrow.Author.Tests.{eq-eqb}
-use lib.ListN.{length, getD, take, drop, length-map, length-take, List·getD-eq-default}
+use lib.ListN.{length, getD, take, drop, length-map, List·getD-eq-default}
 use lib.Seq.{take-take, take-at, getD-take, getD-drop}
-use Rattle.bound.specs.Axes.{ranges}
 use Rattle.engine.specs.Engine.{largerCount}
 use Rattle.file.specs.Accepted.{Accepted}
 use Rattle.fields.specs.File.{sizesOf}
-use Rattle.grid.specs.Grid.{widthsOf}
+use Rattle.evaluate.specs.Evaluate.{vectorOf}
+use Rattle.grid.proofs.Grids.{length-axes}
+use Rattle.input_words.proofs.InputWords.{values-front}
 use Rattle.layouts.specs.AnswerWords.{kindWord, answerFrom}
 use Rattle.layouts.specs.Lengths.{wordAt, atNumber, atPosition, atMark, atVector, atOutput₁, atOutput₂}
 use Rattle.layouts.specs.SessionWords.{markWord, sessionWords}
@@ -21,7 +22,6 @@ use Rattle.layouts.specs.Statement.{ByteSession}
 use Rattle.layouts.proofs.Answers.{answersAsWords}
 use Rattle.fields.proofs.Heads.{length-widths}
 use Rattle.layouts.proofs.Sessions.{sessionsAsWords, position-next, mark-last}
-use Rattle.places.proofs.LastAxis.{length-below}
 use Rattle.session_calls.specs.SessionCalls.{openFits, OpenCall}
 use Rattle.sessions.specs.Calls.{Call, answerTo, sessionAfter, IsRefused as RefusedAnswer, IsVerdict}
 use Rattle.sessions.specs.Demand3.{stop, stopVector, ShowsFirst, Settled, MarkOf, start, Whole}
@@ -33,9 +33,12 @@ use Rattle.sessions.specs.declared.Mark.the-variants.{Open, Equal, Differ}
 use Rattle.sessions.specs.declared.Session.{Session}
 use Rattle.sessions.proofs.Demand3.{demand3}
 use Rattle.sessions.proofs.Pair.{comparable}
-use Rattle.sizes.specs.Sizes.{maxInputs}
+use Rattle.sizes.specs.Sizes.{maxInputs, formatsOf}
 use Rattle.sizes.specs.Padded.{padded}
+use Rattle.sizes.proofs.Formats.{length-formats}
 use Rattle.sizes.proofs.Padded.{padded-entry}
+use Rattle.vectors.proofs.GridWords.{length-grid-vector}
+use Rattle.words.specs.Words.{word}
 use Rattle.callers.specs.Demand3InC.{ShowsFirstInC, SettledInC, LaterInC, FinishedInC, UnfinishedInC, WholeInC, Demand3InC}
 use Rattle.callers.specs.Made.{Made, kind, left, IsRefused, GivesVerdict, OwnFiles, budgets}
 use Rattle.callers.proofs.Mirror.{call, Answered, Mirror, Mirrored, mirrored, held-after, left-words, kind-told, refused-told, refused-given, budgets-told, runs-told, each-told, allowed-told, passed, found}
@@ -148,19 +151,19 @@ later-skipped : (c : Made) → c .result ≡ 0 → LaterInC c
 later-skipped c e = record { refused = λ q. absurd (omega arith); silent = silent-skipped c e }
 
 module _ (f₁ f₂ : List ℕ) (sound : Accepted f₁) {σ : Session} {c : Made} (a : Answered σ c) where
-  -- a full-width vector has d values
-  length-full : (x : List ℕ) → length x ≡ length (ranges (widthsOf (sizesOf f₁))) → length x ≡ sizesOf f₁ .d
-  length-full x e =
-      e ∙ simp (length-map, length-take) (omega (arith, length-widths f₁, sound .inputsHigh))
-
   shown : ShowsFirst f₁ f₂ (said a) → ShowsFirstInC f₁ f₂ c
   shown s =
-      let x = stopVector f₁ f₂ in
-      let l = length-full x (length-below (ranges (widthsOf (sizesOf f₁))) x (s .first .fullWidth)) in
+      let x = map word (stopVector f₁ f₂) in
+      let z = sizesOf f₁ in
+      let l = length-map (stopVector f₁ f₂) word ∙ length-grid-vector z (stop f₁ f₂ - 1) ∙ length-axes z (length-widths f₁) (sound .inputsHigh) in
+      let words = first-words a x (z .d) l (sound .inputsHigh) (s .vector) in
+      let count = length-formats z (omega (arith, length-widths f₁, sound .inputsHigh)) in
       record {
         place = s .place;
         first = s .first;
-        vector = first-words a x (sizesOf f₁ .d) l (sound .inputsHigh) (s .vector);
+        integers =
+            ap (vectorOf z) words ∙ sym (values-front (formatsOf z) x _ (count ∙ sym l)) ∙ ap (vectorOf z) (sym (s .vector)) ∙ s .integers;
+        vector = words;
         others = other-words a x (sizesOf f₁ .d) l (sound .inputsHigh) (s .vector);
         output₁ = output₁-told a ∙ s .output₁;
         output₂ = output₂-told a ∙ s .output₂;

@@ -8,9 +8,14 @@ use Prim.Native.Nat.{ℕ, _≤_}
 use native.Mathlib.Omega.{arith}
 use lib.ListN.{length, take, drop, length-take, length-drop, take-append-drop}
 use lib.Seq.{take-append-le}
+use Rattle.evaluate.specs.Evaluate.{vectorOf}
+use Rattle.fields.proofs.Heads.{length-widths}
+use Rattle.input_words.proofs.InputWords.{values-take}
+use Rattle.sizes.specs.declared.Sizes.{Sizes}
+use Rattle.sizes.proofs.Formats.{length-formats}
 use Rattle.fields.specs.File.{sizesOf}
 use Rattle.layouts.specs.AnswerWords.{kindFrom, answerWords, answerFits, answerFrom}
-use Rattle.sizes.specs.Sizes.{maxInputs}
+use Rattle.sizes.specs.Sizes.{maxInputs, formatsOf}
 use Rattle.layouts.specs.Lengths.{wordAt, atNumber, atVector, atOutput₁, atOutput₂, answerLength}
 use Rattle.layouts.specs.SessionWords.{sessionFrom}
 use Rattle.layouts.proofs.Answers.{answersAsWords}
@@ -159,8 +164,13 @@ refusedTextInC f₁ f₂ a n t l t′ l′ r e =
     (rw (text-given f₁ f₂ a n t l t′ l′ r (omega arith)) (refusedText f₁ f₂ (answerFrom a) n (kind-given a kind-0 e)))
 
 -- the start of a start
-front : (d n : ℕ) (l : List ℕ) → d ≤ length (take n l) → take d (take n l) ≡ take d l
-front d n l h = sym (take-append-le d (take n l) (drop n l) h) ∙ ap (take d) (take-append-drop n l)
+-- what the words of a slice give to d inputs, of which the first n are taken
+front :
+    (z : Sizes) (n : ℕ) (l : List ℕ) → z .d ≤ length (z .widths) → z .d ≤ length (take n l) → vectorOf z (take n l) ≡ vectorOf z (take (z .d) l)
+front z n l known h =
+    sym (values-take (formatsOf z) (take n l))
+    ∙ ap (λ d. vectorOf z (take d (take n l))) (length-formats z known)
+    ∙ ap (vectorOf z) (sym (take-append-le (z .d) (take n l) (drop n l) h) ∙ ap (take (z .d)) (take-append-drop n l))
 
 pub verdictTextInC : VerdictTextInC
 unfolding answerFrom
@@ -175,7 +185,7 @@ verdictTextInC f₁ f₂ a n t l t′ l′ r o v =
       equivalent = λ e. s .equivalent (kind-given a kind-2 e);
       differs = λ e.
           s .differs (kind-given a kind-3 e)
-          ∙ ap (λ x. differWords x (wordAt a atOutput₁) (wordAt a atOutput₂)) (front (sizesOf f₁ .d) maxInputs (drop atVector a) (rw (length-take, length-drop) (omega (arith, long, comparable f₁ f₂ (pair-accepted f₁ f₂ o) .sound₁ .inputsHigh))));
+          ∙ ap (λ x. differWords x (wordAt a atOutput₁) (wordAt a atOutput₂)) (front (sizesOf f₁) maxInputs (drop atVector a) (omega (arith, length-widths f₁, comparable f₁ f₂ (pair-accepted f₁ f₂ o) .sound₁ .inputsHigh)) (rw (length-take, length-drop) (omega (arith, long, comparable f₁ f₂ (pair-accepted f₁ f₂ o) .sound₁ .inputsHigh))));
     }))
 
 pub noTextInC : NoTextInC

@@ -25,7 +25,8 @@
 --     size         and the last word is G
 --     none         in a refusal all words from word 3 on are 0
 --   Evaluated f x s s′ o′     of corkbingo_evaluate, where the number word is 0:
---     output       word 3 is the output of the file at the vector x
+--     vector       the words x give a full-width vector of its inputs
+--     output       word 3 is the output of the file at this vector
 --     scratch      the first N scratch entries are 0, and the others as at entry
 --   Tabled f s t s′ t′   of corkbingo_table, where the number word is 0:
 --     table        the first G entries of the table slice are the file's difference table, and the others as at entry
@@ -34,19 +35,18 @@
 --     scratch      the first scratch entries, as many as the larger N of the two files, are 0, and the others as at entry
 --   CellsWritten z w y y′ q′  a call is accepted with the answer q′; the first G entries of the slice y are then the list w, and the others as at entry
 -- Demand 2, of two calls of which the second reads what an accepted first one wrote, and lends a slice with room for G entries:
---   SumOfTableInC        corkbingo_sum of what corkbingo_table wrote, with the file's sizes as words, writes the file's outputs on the grid
+--   SumOfTableInC        corkbingo_sum of what corkbingo_table wrote, with the file's sizes as words, writes the file's outputs at the grid's vectors
 --   DifferenceOfSumInC   corkbingo_difference of what corkbingo_sum wrote writes the first G entries that were summed
 --   SumOfDifferenceInC   corkbingo_sum of what corkbingo_difference wrote writes the first G entries that were differenced
 use mathlib.Core.List.{List, [], _∷_, _++_}
 use mathlib.Core.Logic.{_↔_}
 use mathlib.Core.Path.{_≡_}
 use Prim.Native.Nat.{ℕ, _+_, _-_, _^_, _≤_, _<_, min}
-use lib.ListN.{length, getD, take, drop, replicate}
+use lib.ListN.{length, take, drop, replicate}
 use Rattle.bound.specs.Bound.{IsBound}
 use Rattle.bound.specs.Quotients.{halvings}
-use Rattle.differences.specs.Table.{listed}
 use Rattle.engine.specs.Engine.{largerCount}
-use Rattle.evaluate.specs.Evaluate.{outputOf}
+use Rattle.evaluate.specs.Evaluate.{outputOf, vectorOf}
 use Rattle.file.specs.Accepted.{Accepted}
 use Rattle.file.specs.Check.{fileNumber}
 use Rattle.fields.specs.File.{sizesOf, headOf, stepCount}
@@ -59,10 +59,11 @@ use Rattle.layouts.specs.Lengths.{wordAt, atAxes, atGridSize}
 use Rattle.layouts.specs.SizeWords.{sizeWords, sizesFrom}
 use Rattle.lists.specs.Lists.{sumOf}
 use Rattle.session_calls.specs.SessionCalls.{ContinueCall}
-use Rattle.sizes.specs.Sizes.{maxInputs}
+use Rattle.sizes.specs.Sizes.{maxInputs, formatAt, formatsOf}
 use Rattle.sizes.specs.declared.Sizes.{Sizes}
 use Rattle.table_calls.specs.TableCalls.{TableCall, DifferenceCall, SumCall}
-use Rattle.file_tables.specs.FileTables.{tableOfFile}
+use Rattle.file_tables.specs.FileTables.{tableOfFile, gridOutputs}
+use Rattle.formats.specs.Formats.{FullWidth}
 
 pub record Checked (f o′ : List ℕ) : Type 0 where
   pub number : wordAt o′ 0 ≡ fileNumber f
@@ -93,13 +94,14 @@ pub record Gridded (f o′ : List ℕ) : Type 0 where
   pub axes : wordAt o′ 0 ≡ 0 → take (sizesOf f .d) (drop atAxes o′) ≡ axesOf (sizesOf f)
   pub smaller :
       wordAt o′ 0 ≡ 0 → (i : ℕ) → i < sizesOf f .d → (l : ℕ) → IsBound (sizesOf f .m) l →
-      wordAt o′ (atAxes + i) ≡ min (2 ^ getD (sizesOf f .widths) i 0) l
+      wordAt o′ (atAxes + i) ≡ min (2 ^ formatAt (sizesOf f) i .length) l
   pub others : wordAt o′ 0 ≡ 0 → (i : ℕ) → sizesOf f .d ≤ i → i < maxInputs → wordAt o′ (atAxes + i) ≡ 0
   pub size : wordAt o′ 0 ≡ 0 → wordAt o′ atGridSize ≡ gridSize (sizesOf f)
   pub none : ¬ (wordAt o′ 0 ≡ 0) → drop atAxes o′ ≡ replicate (maxInputs + 1) 0
 
 pub record Evaluated (f x s s′ o′ : List ℕ) : Type 0 where
-  pub output : wordAt o′ 3 ≡ outputOf f x
+  pub vector : FullWidth (formatsOf (sizesOf f)) (vectorOf (sizesOf f) x)
+  pub output : wordAt o′ 3 ≡ outputOf f (vectorOf (sizesOf f) x)
   pub scratch : s′ ≡ replicate (stepCount f) 0 ++ drop (stepCount f) s
 
 pub record Tabled (f s t s′ t′ : List ℕ) : Type 0 where
@@ -121,7 +123,7 @@ SumOfTableInC =
     (y q y′ q′ : List ℕ) →
     SumCall (sizeWords (sizesOf f)) t′ y q 1 y′ q′ →
     gridSize (sizesOf f) ≤ length y →
-    CellsWritten (sizesOf f) (listed (axesOf (sizesOf f)) (outputOf f)) y y′ q′
+    CellsWritten (sizesOf f) (gridOutputs f) y y′ q′
 
 abbrev pub DifferenceOfSumInC : Type 0
 DifferenceOfSumInC =

@@ -16,35 +16,39 @@
 --   SettledInC f₁ f₂ c        the kind word is 2 exactly where the outputs are equal at every full-width vector; if it is 3, the answer shows
 --                             the first difference
 --   ShowsFirstInC f₁ f₂ c     place D − 1 is below G; the grid's vector there is the first of all full-width vectors at which the outputs differ;
---                             the first d vector words are that vector, the others are 0, and the output words are the two files' outputs there
-use mathlib.Core.List.{List, _∷_, _++_}
+--                             the first d vector words give that vector, and are its words; the others are 0; and the output words are the two
+--                             files' outputs there
+use mathlib.Core.List.{List, _∷_, _++_, map}
 use mathlib.Core.Logic.{_⊎_, _↔_}
 use mathlib.Core.Path.{_≡_}
 use Prim.Native.Nat.{ℕ, _+_, _-_, _<_, _≤_, min}
+use lib.IntN.{ℤ}
 use lib.ListN.{length, take, drop}
 use Rattle.engine.specs.Engine.{largerCount}
-use Rattle.evaluate.specs.Evaluate.{outputOf}
+use Rattle.evaluate.specs.Evaluate.{outputOf, vectorOf}
 use Rattle.fields.specs.File.{sizesOf}
 use Rattle.fields.specs.Steps.{stepsOf}
-use Rattle.grid.specs.Grid.{widthsOf, gridSize}
+use Rattle.grid.specs.Grid.{gridSize}
 use Rattle.layouts.specs.Layout.{has, returned}
 use Rattle.layouts.specs.Lengths.{wordAt, atNumber, atPosition, atMark, atVector, atOutput₁, atOutput₂, answerLength}
 use Rattle.session_calls.specs.SessionCalls.{OpenCall}
 use Rattle.sessions.specs.Demand3.{stop, StopInRange, stopVector, FullWidth}
-use Rattle.sizes.specs.Sizes.{maxInputs}
+use Rattle.sizes.specs.Sizes.{maxInputs, formatsOf}
+use Rattle.words.specs.Words.{word}
 use Rattle.grid_theorem.specs.Comparison.{IsFirst}
 use Rattle.callers.specs.Made.{Made, kind, Chain, left, Each, IsRefused, GivesVerdict, OwnFiles, Allowed, budgets, runs}
 
 pub record ShowsFirstInC (f₁ f₂ : List ℕ) (c : Made) : Type 0 where
   pub place : stop f₁ f₂ - 1 < gridSize (sizesOf f₁)
-  pub first : IsFirst (sizesOf f₁ .m) (widthsOf (sizesOf f₁)) (stepsOf f₁) (stepsOf f₂) (stopVector f₁ f₂)
-  pub vector : take (sizesOf f₁ .d) (drop atVector (c .answer′)) ≡ stopVector f₁ f₂
+  pub first : IsFirst (sizesOf f₁ .m) (formatsOf (sizesOf f₁)) (stepsOf f₁) (stepsOf f₂) (stopVector f₁ f₂)
+  pub integers : vectorOf (sizesOf f₁) (take (sizesOf f₁ .d) (drop atVector (c .answer′))) ≡ stopVector f₁ f₂
+  pub vector : take (sizesOf f₁ .d) (drop atVector (c .answer′)) ≡ map word (stopVector f₁ f₂)
   pub others : (i : ℕ) → sizesOf f₁ .d ≤ i → i < maxInputs → wordAt (c .answer′) (atVector + i) ≡ 0
   pub output₁ : wordAt (c .answer′) atOutput₁ ≡ outputOf f₁ (stopVector f₁ f₂)
   pub output₂ : wordAt (c .answer′) atOutput₂ ≡ outputOf f₂ (stopVector f₁ f₂)
 
 pub record SettledInC (f₁ f₂ : List ℕ) (c : Made) : Type 0 where
-  pub equivalent : (kind c ≡ 2) ↔ ((x : List ℕ) → FullWidth f₁ x → outputOf f₁ x ≡ outputOf f₂ x)
+  pub equivalent : (kind c ≡ 2) ↔ ((x : List ℤ) → FullWidth f₁ x → outputOf f₁ x ≡ outputOf f₂ x)
   pub differs : kind c ≡ 3 → ShowsFirstInC f₁ f₂ c
 
 pub record MarkedInC (c : Made) (w : List ℕ) : Type 0 where

@@ -9,7 +9,7 @@
 --   Stands P t t′ l′         a text with the property P stands at the start of the text slice, the bytes past it are untouched, and the length
 --                            word is its count of bytes
 --   RefusedTextInC           the kind word is 0: the text is the one line of the refusal that words 0, 1 and 2 are
---   VerdictTextInC           the kind word is 2 or 3, and opening the files is accepted: the text shows the verdict with the answer's words as they are
+--   VerdictTextInC           the kind word is 2 or 3, and opening the files is accepted: the text shows the verdict with what the answer's words say
 --   ShowsWords f₁ a n text   the text is three lines: the grid, the verdict that the answer words a give, and n
 --   NoTextInC                the kind word is not 0, 2 or 3, or it is 2 or 3 and opening the files is refused: there is no text
 --   NoText t t′ l′           the text slice is as at entry, and the length word is 0
@@ -19,6 +19,7 @@ use mathlib.Core.Logic.{_⊎_}
 use mathlib.Core.Path.{_≡_}
 use Prim.Native.Nat.{ℕ, _<_}
 use lib.ListN.{length, take, drop}
+use Rattle.evaluate.specs.Evaluate.{vectorOf}
 use Rattle.fields.specs.File.{sizesOf}
 use Rattle.layouts.specs.Lengths.{wordAt, atNumber, atVector, atOutput₁, atOutput₂}
 use Rattle.printed.specs.Claims.{differWords, ThreeLines, Refuses}
@@ -84,8 +85,11 @@ pub record ShowsWords (f₁ a : List ℕ) (n : ℕ) (text : List ℕ) : Type 0 w
   pub lines : ThreeLines f₁ n verdict text
   -- that one word where the kind word is 2
   pub equivalent : wordAt a 3 ≡ 2 → verdict ≡ ascii "equivalent"
-  -- where it is 3, the first d words of the vector, and the two output words
-  pub differs : wordAt a 3 ≡ 3 → wordsOf verdict ≡ differWords (take (sizesOf f₁ .d) (drop atVector a)) (wordAt a atOutput₁) (wordAt a atOutput₂)
+  -- where it is 3, the values that the first d words of the vector give to the inputs, and the two output words
+  pub differs :
+      wordAt a 3 ≡ 3 →
+      let x = vectorOf (sizesOf f₁) (take (sizesOf f₁ .d) (drop atVector a)) in
+      wordsOf verdict ≡ differWords x (wordAt a atOutput₁) (wordAt a atOutput₂)
 
 abbrev pub VerdictTextInC : Type 0
 VerdictTextInC =

@@ -15,9 +15,12 @@ use Rattle.evaluate.specs.Evaluate.{outputOf}
 use Rattle.file.specs.Check.{fileNumber, shownStep, refusalOf, tooShort, shortOfHead, badCount, badLength, badOperation, operandsRule, argumentRule, badArgument, stepFault, faultyAt, faultyStep, headFault}
 use Rattle.fields.specs.File.{widthBytes, sizesOf, stepCount, operation, argument}
 use Rattle.fields.specs.Steps.{decoded, stepAt, stepsFrom, stepsOf}
-use Rattle.grid.specs.Grid.{axesOf, gridSize}
+use Rattle.formats.specs.Bytes.{formatOf}
+use Rattle.formats.specs.Formats.{lowest}
+use Rattle.grid.specs.Grid.{axesOf, lowsOf, gridSize, gridVector}
 use Rattle.integers.specs.Modulo.{remainder}
 use Rattle.places.specs.Places.{size, digitsAt}
+use Rattle.places.specs.Vectors.{counted, vectorAt}
 use Rattle.printed.specs.Listings.{a·dp, b·dp}
 use Rattle.ranges.specs.Search.{first, every}
 use Rattle.sessions.specs.Calls.{answerTo, answers, vectorsRun}
@@ -75,7 +78,7 @@ unfolding found claimed
     refusalOf shownStep fileNumber headFault tooShort shortOfHead badOutput badInputs badCount badWidths widthRule badLength
     faultyStep faultyAt stepFault badOperation badArgument argumentRule operandsRule
     widthBytes sizesOf stepCount operation argument little stepsOf stepsFrom stepAt decoded
-    axesOf gridSize axis bound log2 greedy size digitsAt
+    axesOf lowsOf gridSize gridVector axis bound log2 greedy size digitsAt formatOf lowest counted vectorAt
     every first firstDifference differsAt output exact values stepValue remainder
 all-found = refl
 
@@ -96,7 +99,7 @@ row i l =
     record { accepted = ap (λ r. r .0) e; answered = ap (λ r. r .1) e; stopped = ap (λ r. r .2) e }
 
 -- equal at all vectors, where both sides compute to one function
-all : (f : List ℕ → ℤ) (v : List ℕ) → f v ≡ f v
+all : (f : List ℤ → ℤ) (v : List ℤ) → f v ≡ f v
 all f v = refl
 
 pub starredPairs : StarredPairs

@@ -1,7 +1,7 @@
 -- The pairs marked * in document 01, as one fact. It is proved in proofs/Rows, by computing.
 --   a ^ℤ n         the n-th power of the integer a
---   Sized s m ns   the file s has output word length m and an input for each entry of ns, which is its word length;
---                  the other word lengths are 0
+--   Sized s m ns   the file s has output word length m and an input for each entry of ns, which is its width byte: an unsigned
+--                  input's word length; the other width bytes are 0
 --   Computes s f   at every vector v, the exact value of the file's last step is f v
 --   input v i      the integer that input i of the vector v holds, counted from 0
 --   Row p m ns f₁ f₂ bs ans
@@ -38,17 +38,17 @@ a ^ℤ suc (suc n) = a ^ℤ suc n *ℤ a
 abbrev pub Sized : List ℕ → ℕ → List ℕ → Type 0
 Sized s m ns = sizesOf s ≡ record { m = m; d = length ns; widths = ns ++ replicate (maxInputs - length ns) 0 }
 
-abbrev pub Computes : List ℕ → (List ℕ → ℤ) → Type 0
-Computes s f = (v : List ℕ) → exact (stepsOf s) v ≡ f v
+abbrev pub Computes : List ℕ → (List ℤ → ℤ) → Type 0
+Computes s f = (v : List ℤ) → exact (stepsOf s) v ≡ f v
 
-pub record Row (p : Pair) (m : ℕ) (ns : List ℕ) (f₁ f₂ : List ℕ → ℤ) (bs : List ℕ) (ans : List Answer) : Type 0 where
+pub record Row (p : Pair) (m : ℕ) (ns : List ℕ) (f₁ f₂ : List ℤ → ℤ) (bs : List ℕ) (ans : List Answer) : Type 0 where
   pub sizes : Sized (p .file₁) m ns × Sized (p .file₂) m ns
   pub values : Computes (p .file₁) f₁ × Computes (p .file₂) f₂
   pub calls : (p .budgets ≡ bs) × (p .answers ≡ ans)
   pub holds : Holds p
 
-abbrev pub input : List ℕ → ℕ → ℤ
-input v i = pos (getD v i 0)
+abbrev pub input : List ℤ → ℕ → ℤ
+input v i = getD v i (pos 0)
 
 abbrev pub OneInput : Pair → ℕ → ℕ → (ℤ → ℤ) → (ℤ → ℤ) → List ℕ → List Answer → Type 0
 OneInput p m n f₁ f₂ bs ans = Row p m (n ∷ []) (λ v. f₁ (input v 0)) (λ v. f₂ (input v 0)) bs ans

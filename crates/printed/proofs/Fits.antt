@@ -10,18 +10,17 @@ use native.Mathlib.Decide.{decLt}
 use native.Mathlib.Omega.{arith}
 use lib.Dec.{lit≤, lit<}
 use lib.IntN.{pos}
-use lib.ListN.{length, getD, take, length-append, length-map, length-take}
+use lib.ListN.{length, getD, length-append, length-map, length-take}
 use Rattle.bound.specs.Axes.{axis, axes}
 use Rattle.plan.proofs.Axes.{length-file-axes, file-grid-fits}
 use Rattle.file.specs.Accepted.{Accepted}
 use Rattle.fields.specs.File.{sizesOf}
-use Rattle.formats.specs.Bytes.{formatOf}
 use Rattle.formats.specs.declared.Format.{Format}
 use Rattle.grid.specs.Grid.{axesOf, gridSize}
 use Rattle.grid.proofs.Axes.{axis-most}
 use Rattle.evaluate.specs.Evaluate.{vectorOf}
 use Rattle.input_words.specs.InputWords.{signedValue, valueOf, valuesOf}
-use Rattle.input_words.proofs.InputWords.{signed-natural, signed-negative}
+use Rattle.input_words.proofs.InputWords.{signed-natural, signed-negative, values-length}
 use Rattle.sessions.specs.Session.{opened}
 use Rattle.sessions.specs.declared.Answer.{Answer}
 use Rattle.sessions.specs.declared.Kind.{Kind}
@@ -87,13 +86,6 @@ values-short [] ws h = tt
 values-short (f ∷ fs) [] h = tt
 values-short (f ∷ fs) (w ∷ ws) h = (value-most f w (h 0), values-short fs ws (λ i. h (suc i)))
 
--- there are no more values than inputs
-values-fewer : (fs : List Format) (ws : List ℕ) → length (valuesOf fs ws) ≤ length fs
-unfolding valuesOf
-values-fewer [] ws = omega arith
-values-fewer (f ∷ fs) [] = omega arith
-values-fewer (f ∷ fs) (w ∷ ws) = omega (arith, values-fewer fs ws)
-
 -- the lines
 module _ (a : Answer) (w : Words a) where
   refusal-most : length (refusalLine (a .refusal)) ≤ 71
@@ -110,13 +102,12 @@ module _ (a : Answer) (w : Words a) where
   differ-most : (z : Sizes) → z .d ≤ maxInputs → length (differLine (vectorOf z (a .vector)) (a .output1) (a .output2)) ≤ 261
   unfolding differLine spacedBy
   differ-most z h =
+      let few : length (formatsOf z) ≤ z .d = simp (length-map, length-take) (omega arith) in
       simp length-append
       (omega (
         arith,
         spaced-most integer 20 (vectorOf z (a .vector)) (values-short (formatsOf z) (a .vector) (w .entries)),
-        values-fewer (formatsOf z) (a .vector),
-        length-map (take (z .d) (z .widths)) formatOf,
-        length-take (z .d) (z .widths),
+        values-length (formatsOf z) (a .vector) (omega (arith, w .inputs)),
         decimal-most (a .output1) (w .output₁),
         decimal-most (a .output2) (w .output₂),
       ))

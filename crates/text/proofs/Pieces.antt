@@ -1,5 +1,5 @@
--- Texts taken apart: a line ends its piece at its line feed, and a word ends at the space after it, since no digit is either, nor is a minus sign. By recursion on
--- the bytes. Assumes nothing.
+-- Texts taken apart: a line ends its piece at its line feed, and a word ends at the space after it, since no digit is either, nor is a minus
+-- sign. By recursion on the bytes. Assumes nothing.
 use mathlib.Core.Path.{_≡_, refl, sym, _∙_, ap}
 use mathlib.Core.Bool.{Bool, true, not, _&&_, and-eq-true-iff}
 use mathlib.Core.List.{List, [], _∷_, _++_, map, append-assoc, append-nil}

@@ -1,4 +1,4 @@
--- Numbers in decimal, as bytes (document 01, 'Pairs').
+-- Numbers in decimal, as bytes (document 01, 'Pairs'), and integers with their signs (document 02, T-01).
 --   digit d           the byte of the digit d
 --   decimal n         the digits of n
 --   numeral bytes     the number that the bytes of digits give

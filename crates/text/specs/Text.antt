@@ -1,5 +1,5 @@
--- Text as bytes (document 01, 'Pairs'): decimal numbers, single spaces, a line feed at the end of each line; and texts taken apart again, by
--- their bytes alone.
+-- Text as bytes (document 01, 'Pairs'): decimal numbers and integers, single spaces, a line feed at the end of each line; and texts taken apart
+-- again, by their bytes alone.
 --   ascii text         the bytes of a text: the codes of its characters
 --   lineFeed           the byte of a line feed
 --   space              the byte of a space

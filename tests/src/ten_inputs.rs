@@ -111,7 +111,7 @@ fn weighted() -> Expression {
 }
 
 /// The vector of ten entries that are 0 but for this one, counted from 1.
-fn alone(number: usize, entry: u64) -> [u64; 10] {
+fn alone(number: usize, entry: i128) -> [i128; 10] {
     let mut vector = [0; 10];
     vector[number - 1] = entry;
     vector

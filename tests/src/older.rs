@@ -175,7 +175,7 @@ mod tests {
         let mut random = Random::new(0x01de3);
         let mut seen = Seen::default();
         for d in 1..=INPUTS {
-            let list = files(&mut random, d, 8);
+            let list = files(&mut random, d, 6);
             for bytes in list.into_iter().filter(|bytes| !marked(bytes)) {
                 assert_eq!(read(&bytes, 1).unwrap().sizes.d(), d);
                 seen.damage(&bytes);

@@ -205,6 +205,7 @@ pub fn countable(random: &mut Random, sizes: &Sizes) -> Vec<u64> {
 /// every input is at least so far from its lowest value, so the first difference is at the vector of
 /// the digits itself, where it counts.
 pub fn late(path: &Datapath, digits: &[u64]) -> Datapath {
+    assert!(counts(path.sizes.m, digits), "no difference at {digits:?}");
     multiple(path, digits, 1)
 }
 
@@ -216,9 +217,15 @@ pub fn barely(path: &Datapath, digits: &[u64]) -> Datapath {
     multiple(path, digits, 1 << (m - 1 - power_in_factorials(digits)))
 }
 
-fn multiple(path: &Datapath, digits: &[u64], factor: u64) -> Datapath {
+/// The same times twice as much, which is 0 at every full-width vector.
+pub fn nowhere(path: &Datapath, digits: &[u64]) -> Datapath {
     let m = path.sizes.m;
-    assert!(counts(m, digits), "no difference at {digits:?}");
+    let power = m - power_in_factorials(digits).min(m);
+    let factor = if power == m { 0 } else { 1 << power };
+    multiple(path, digits, factor)
+}
+
+fn multiple(path: &Datapath, digits: &[u64], factor: u64) -> Datapath {
     let mut steps = path.steps.clone();
     let last = steps.len() - 1;
     let mut product = push(&mut steps, Step::Constant(factor));
@@ -291,6 +298,8 @@ mod tests {
             };
             assert_eq!(shown, vector);
             assert_eq!(outputs[0] ^ outputs[1], 1 << (sizes.m - 1));
+            let found = compare_paths(vectors(&sizes), &first, &nowhere(&first, &digits));
+            assert_eq!(found.verdict, Verdict::Equivalent, "{digits:?}");
         }
         assert!((50..200).contains(&signed), "{signed} sizes with a mark");
     }

@@ -15,7 +15,7 @@ use reference::expression::{Expression, falling, x};
 use reference::file::{SHORT_INPUTS, STEPS, length};
 use reference::pairs::{self, SAMPLE_A, SAMPLE_B};
 use reference::report::report;
-use reference::signed::{self, SAMPLE_SIGNED, ZERO_SIGNED};
+use reference::signed::{self, SAMPLE_SIGNED, ZERO_SIGNED, marked_file};
 use reference::sizes::{INPUTS, SIGNED};
 use reference::ten_inputs;
 use std::env;
@@ -254,7 +254,7 @@ fn signs(bench: &mut Bench, folder: &Folder) -> Outcome {
         (
             8,
             &[1, SIGNED + 1, 2, SIGNED + 2],
-            [(x(1) * x(4)), 0 * x(1)],
+            [x(1) * x(4), 0.into()],
             "grid 2 2 4 4 = 64\ndiffer 1 -1 0 -2 : 254 0\nrun 33\n",
         ),
         (
@@ -291,6 +291,10 @@ fn refused(bench: &mut Bench) -> Outcome {
         prints(bench, &folder, [&sound, &[]], "refused 1 2 0\n")?;
     }
     prints(bench, &folder, [&[], &[]], "refused 1 1 0\n")?;
+    // the two differ in the marks of their inputs alone
+    let marked = marked_file(&SAMPLE_B);
+    prints(bench, &folder, [&SAMPLE_A, &marked], "refused 9 0 0\n")?;
+    prints(bench, &folder, [&marked, &SAMPLE_A], "refused 9 0 0\n")?;
     for (d, extras) in [
         (1, &[1, 2, 3, 9, 3_000, 60_000, 2_000_000][..]),
         (INPUTS, &[1, 9]),

@@ -10,7 +10,7 @@ use reference::grid::{axes, digits_at, place_of, size, vector_of};
 use reference::mixed;
 use reference::random::Random;
 use reference::sessions::{DIFFERS, EQUIVALENT, KIND, MARK, POSITION, RUN, SPENT, Survey, larger};
-use reference::sizes::{SIGNED, Sizes, words_of};
+use reference::sizes::{SIGNED, Sizes};
 use reference::spots::{alone, spots};
 use reference::twins::{barely, countable, counts};
 
@@ -306,11 +306,16 @@ fn every(bench: &mut Bench, runs: &mut Runs, survey: &Survey, places: &[u64]) ->
     let mut position = 0;
     for &place in places {
         let done = runs.run(bench, survey, position, u64::MAX, &scratch)?;
+        let sizes = &survey.paths[0].sizes;
         let digits = digits_at(&survey.axes, place).expect("a place below G");
-        let vector = words_of(&vector_of(&survey.paths[0].sizes, &digits));
-        let shown = &done.answer[RUN + 1..][..vector.len()];
-        bench.same(shown, &vector, || format!("from {position} to {place}"))?;
-        bench.same(&place_of(&survey.axes, &digits), &place, || {
+        let words = &done.answer[RUN + 1..][..sizes.d()];
+        let shown = sizes.vector(words).ok_or("no full-width vector is shown")?;
+        bench.same(&shown, &vector_of(sizes, &digits), || {
+            format!("from {position} to {place}")
+        })?;
+        let far = shown.iter().zip(sizes.lowest());
+        let far: Vec<u64> = far.map(|(x, low)| (x - low) as u64).collect();
+        bench.same(&place_of(&survey.axes, &far), &place, || {
             format!("from {position}")
         })?;
         position = place + 1;

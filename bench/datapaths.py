@@ -11,6 +11,18 @@ from random import Random
 
 INPUT, CONSTANT, ADD, SUBTRACT, MULTIPLY = range(1, 6)
 
+SIGNED = 128
+
+
+def word_length(width):
+    """The word length of an input, whose width byte has SIGNED added where it is signed."""
+    return width % SIGNED
+
+
+def lowest(width):
+    """The lowest value of an input."""
+    return -(2 ** (word_length(width) - 1)) if width >= SIGNED else 0
+
 
 class Ring:
     """Operators by `lift`, which takes a number to an element, and `apply`."""
@@ -93,15 +105,17 @@ class Datapath:
 
 
 class Pair:
-    """Two forms with word lengths and m; `first` is the first vector at which they differ, None where they are equivalent."""
+    """Two forms with width bytes and m; `first` is the first vector at which they differ, None where they are equivalent."""
 
     def __init__(self, name, widths, m, form1, form2, first=None):
         self.name, self.widths, self.m, self.forms, self.first = name, widths, m, (form1, form2), first
         self.datapaths = [Datapath(m, widths, form) for form in self.forms]
         bound = next(k for k in range(1, 67) if factorial(k) % 2**m == 0)
-        self.axes = [min(2**n, bound) for n in widths]
+        self.lowest = [lowest(width) for width in widths]
+        self.axes = [min(2 ** word_length(width), bound) for width in widths]
         self.grid = prod(self.axes)
-        self.place = reduce(lambda p, digit: p * digit[1] + digit[0], zip(first, self.axes), 0) if first else self.grid
+        digits = [x - low for x, low in zip(first, self.lowest)] if first else []
+        self.place = reduce(lambda p, digit: p * digit[1] + digit[0], zip(digits, self.axes), 0) if first else self.grid
         self.run = self.place + 1 if first else self.grid
 
 

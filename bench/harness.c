@@ -5,7 +5,7 @@
  *
  * The ways: 0 the product, by opening and continuing with the budget; 1 the plain loop, or the earlier product where one is given; 2 the C
  * called for each vector; 3 the C over the grid. Each comparison must find the pair's first difference, or the exit status is 1. An earlier
- * product that does not take so many inputs is left out: its time is '-'.
+ * product that does not take so many inputs, or signed ones, is left out: its time is '-'.
  */
 #define _POSIX_C_SOURCE 200809L
 #include <dlfcn.h>
@@ -22,7 +22,7 @@ static const char *const names[WAYS] = {"product", "plain loop", "C for each vec
 struct library {
     void *handle;
     __typeof__(by_session) *by_session;
-    const uint64_t *most_inputs;
+    const uint64_t *most_inputs, *signed_inputs;
 };
 
 static const struct pair *pair;
@@ -38,10 +38,16 @@ static void fail(const char *what) {
 /* The vector one place later. */
 static void step(uint64_t *vector) {
     for (uint64_t i = pair->d; i-- > 0;) {
-        if (++vector[i] < pair->axes[i])
+        if (++vector[i] - pair->lowest[i] < pair->axes[i])
             return;
-        vector[i] = 0;
+        vector[i] = pair->lowest[i];
     }
+}
+
+/* The vector at a place. */
+static void find(uint64_t *vector, uint64_t place) {
+    for (uint64_t i = pair->d; i-- > 0; place /= pair->axes[i])
+        vector[i] = pair->lowest[i] + place % pair->axes[i];
 }
 
 /* The product. */
@@ -89,7 +95,8 @@ static uint64_t output_at(const uint8_t *file, const uint64_t *vector) {
 }
 
 static uint64_t interpreted(void) {
-    uint64_t vector[MOST_INPUTS] = {0}, place = 0;
+    uint64_t vector[MOST_INPUTS], place = 0;
+    find(vector, place);
     for (; place < pair->grid && output_at(pair->file[0], vector) == output_at(pair->file[1], vector); place++)
         step(vector);
     return place;
@@ -97,9 +104,8 @@ static uint64_t interpreted(void) {
 
 /* The C: the first difference from the vector at a place on. */
 static uint64_t compiled_from(uint64_t place) {
-    uint64_t vector[MOST_INPUTS] = {0}, rest = place;
-    for (uint64_t i = pair->d; i-- > 0; rest /= pair->axes[i])
-        vector[i] = rest % pair->axes[i];
+    uint64_t vector[MOST_INPUTS];
+    find(vector, place);
     for (; place < pair->grid && pair->form[0](vector) == pair->form[1](vector); place++)
         step(vector);
     return place;
@@ -114,9 +120,17 @@ static uint64_t compare(int way) {
     }
 }
 
+/* Whether an input of the pair is signed. */
+static int has_signed(void) {
+    for (uint64_t i = 0; i < pair->d; i++)
+        if (pair->lowest[i] != 0)
+            return 1;
+    return 0;
+}
+
 /* Whether the pair can be compared in this way. */
 static int can(int way) {
-    return way != PLAIN || !earlier.handle || pair->d <= *earlier.most_inputs;
+    return way != PLAIN || !earlier.handle || (pair->d <= *earlier.most_inputs && (*earlier.signed_inputs || !has_signed()));
 }
 
 /* Runs comparisons in one way; the instructions counted are those inside. */
@@ -156,6 +170,7 @@ static struct library library(const char *path) {
     struct library l;
     l.by_session = load(path, "by_session", &l.handle);
     l.most_inputs = dlsym(l.handle, "most_inputs");
+    l.signed_inputs = dlsym(l.handle, "signed_inputs");
     return l;
 }
 

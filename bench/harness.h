@@ -7,7 +7,7 @@ enum { MOST_INPUTS = 10 }; /* of a pair */
 struct pair {
     const uint8_t *file[2];
     size_t length[2];
-    uint64_t d, axes[MOST_INPUTS], grid;
+    uint64_t d, lowest[MOST_INPUTS], axes[MOST_INPUTS], grid; /* the lowest value of an input as a word */
     uint64_t first;                        /* the place of the first difference, or grid */
     uint64_t (*form[2])(const uint64_t *); /* the outputs at a vector */
     uint64_t (*first_row)(void);           /* the first place of the first row, a run of the last input, with a difference; or grid */
@@ -18,4 +18,5 @@ struct pair {
 uint64_t by_session(const struct pair *pair, uint64_t budget, uint64_t *scratch);
 #define NO_PLACE UINT64_MAX
 
-extern const uint64_t most_inputs; /* that the library takes */
+extern const uint64_t most_inputs;   /* that the library takes */
+extern const uint64_t signed_inputs; /* whether it takes signed ones */

@@ -4,7 +4,7 @@ from functools import reduce
 from math import cos, pi, sqrt
 from operator import add
 
-from datapaths import Pair, coefficients, expanded, falling, falling_product, horner, nest, vanishing, volterra
+from datapaths import SIGNED, Pair, coefficients, expanded, falling, falling_product, horner, nest, vanishing, volterra
 
 # Table I. The numbers of inputs, degrees, word lengths and m are the rows'; the formulas are models of what the rows name.
 
@@ -159,6 +159,46 @@ SHAPES = [
     Pair("Beam of ten samples", [2] * 8 + [3] * 2, 16, beam, beam_folded),
 ]
 
+# Audio blocks with signed samples.
+
+
+def stereo(s1, s2, g1, g2):
+    """Two samples, each times its gain."""
+    return s1 * g1 + s2 * g2
+
+
+def stereo_in_twos(s1, s2, g1, g2):
+    """Winograd's inner product."""
+    return (s1 + g2) * (s2 + g1) - s1 * s2 - g1 * g2
+
+
+def stereo_wrong(s1, s2, g1, g2):
+    """A redundant term of falling factorials, counted from the lowest values, that is half of one that vanishes."""
+    k = (9, 3, 8, 2)
+    return stereo_in_twos(s1, s2, g1, g2) + vanishing(24, k) // 2 * falling_product(k, [s1 + 2**15, s2 + 2**15, g1, g2])
+
+
+# A low-pass section of second order, its coefficients with 14 fraction bits: of three samples in and two out.
+B, A = [1106, 2212, 1106], [-18727, 6763]
+
+
+def biquad(x0, x1, x2, y1, y2):
+    return B[0] * x0 + B[1] * x1 + B[2] * x2 - A[0] * y1 - A[1] * y2
+
+
+def biquad_folded(x0, x1, x2, y1, y2):
+    """One product for all samples in, whose weights are 1, 2 and 1."""
+    return B[0] * (x0 + 2 * x1 + x2) - (A[0] * y1 + A[1] * y2)
+
+
+SAMPLES = [SIGNED + 16] * 2 + [8] * 2
+
+AUDIO = [
+    Pair("Mixer, signed samples", SAMPLES, 24, stereo, stereo_in_twos),
+    Pair("Mixer, signed samples, wrong", SAMPLES, 24, stereo, stereo_wrong, (9 - 2**15, 3 - 2**15, 8, 2)),
+    Pair("Biquad, signed samples", [SIGNED + 3] * 5, 32, biquad, biquad_folded),
+]
+
 # Blocks of 900 to 1,024 steps in both forms.
 
 
@@ -201,4 +241,4 @@ BLOCKS = [
     Pair("Block, Newton's form, wrong", [64, 64], 64, newton_sum(TABLE), newton_nested(WRONG), (16, 16)),
 ]
 
-PAIRS = TABLE_1 + TABLE_2 + SHAPES + BLOCKS
+PAIRS = TABLE_1 + TABLE_2 + SHAPES + AUDIO + BLOCKS

@@ -1,5 +1,11 @@
 /* Corkbingo: the C interface of the datapath equivalence checker.
  *
+ * An input has a width byte: in the low seven bits its word length n, 1 to 64, and above them
+ * CORKBINGO_SIGNED where it is signed. A signed input ranges from -2^(n-1) to 2^(n-1) - 1, an
+ * unsigned one from 0 to 2^n - 1. A vector has a word for each input: of a signed one the value in
+ * two's complement of 64 bits, which is what the word is as int64_t; of an unsigned one the value
+ * itself. Dictionary order is by values, the first input weighing most. Outputs are unsigned.
+ *
  * A byte slice is a pointer and a length. A word slice is a pointer to uint64_t and a length in
  * words. Slices that a call writes overlap no other slice of the call; slices that are only read
  * may be the same. Files, vectors, tables and numbers may hold anything; no call reads or writes
@@ -13,8 +19,9 @@
  * Every answer goes into a word slice of a fixed length, which the caller lends. Sizes and
  * sessions are word slices of fixed lengths too:
  *
- *   sizes, 12 words      m, d, n1 to n10 (0 past the d-th); each at most 255
- *   session, 14 words    m, d, n1 to n10, each at most 255; position; mark (CORKBINGO_MARK_..)
+ *   sizes, 12 words      m, d, ten width bytes (0 past the d-th); each at most 255
+ *   session, 14 words    m, d, ten width bytes, each at most 255; position; mark
+ *                        (CORKBINGO_MARK_..)
  *
  * A function returns 1 where these lengths are right and the words that it reads of sizes or of a
  * session fit their fields. The answer is then written whole, a refusal too. Otherwise it returns
@@ -30,17 +37,19 @@
  *    2  m is not 1 to 64
  *    3  d is not 1 to 10
  *    4  N is not 1 to 1,024
- *    5  a word length breaks its rule
+ *    5  a width byte breaks its rule: the low seven bits of the first d are 1 to 64, whether
+ *       signed or not, and the others are 0, CORKBINGO_SIGNED too
  *    6  the length is not 12 + 9N, or 14 + 9N where d is 9 or 10
  *    7  an operation byte is not 1 to 5
  *    8  an argument breaks its rule
- *    9  the files differ in m, d or a word length
+ *    9  the files differ in m, d or a width byte, be it in CORKBINGO_SIGNED alone
  *   11  the budget is 0
  *   12  the scratch slice has fewer entries than the file has steps, or the longer of two files
  *   13  a slice for a table or for outputs has fewer than G entries, or one of the first G that are
  *       given to be summed or differenced is 2^m or more
- *   14  the vector is not d long, or an entry is 2^n or more for its input's word length n
- *  101  the session's m, d or word lengths are not the files'
+ *   14  the vector is not d long, or a value is not in its input's range; so of an unsigned input
+ *       of fewer than 64 bits no word of a negative value is taken
+ *  101  the session's m, d or width bytes, whole, are not the files'
  *  102  the position does not fit the mark: open needs below G, equal needs G, differ 1 to G
  *  103  the mark is not open
  *
@@ -58,7 +67,7 @@
 
 /* The version of this interface: it grows with every change of a function, of a layout or of the
  * refusal numbers. */
-#define CORKBINGO_VERSION 5
+#define CORKBINGO_VERSION 6
 
 /* The stack, in bytes, with which a thread can make every call. */
 #define CORKBINGO_STACK_BYTES 106496
@@ -67,8 +76,12 @@
 #define CORKBINGO_INPUTS 10
 #define CORKBINGO_STEPS 1024
 
-/* The head of a file, the bytes before its operations: m, d, two bytes for N, and word lengths. A
- * file of at most CORKBINGO_SHORT_INPUTS inputs holds so many word lengths, one of more inputs
+/* The bit of a signed input in its width byte, and the word length in the other bits. */
+#define CORKBINGO_SIGNED 128
+#define CORKBINGO_WORD_LENGTH(width) ((width) & 127)
+
+/* The head of a file, the bytes before its operations: m, d, two bytes for N, and width bytes. A
+ * file of at most CORKBINGO_SHORT_INPUTS inputs holds so many width bytes, one of more inputs
  * CORKBINGO_INPUTS. The head is followed by 9 bytes for each step. */
 #define CORKBINGO_SHORT_INPUTS 8
 #define CORKBINGO_HEAD_BYTES(d) \
@@ -111,7 +124,7 @@
 #define CORKBINGO_GRID_AXES 3
 #define CORKBINGO_GRID_SIZE (CORKBINGO_GRID_AXES + CORKBINGO_INPUTS)
 
-/* Where the words of a session stand; m, d and the word lengths stand in sizes as here. */
+/* Where the words of a session stand; m, d and the width bytes stand in sizes as here. */
 #define CORKBINGO_SESSION_M 0
 #define CORKBINGO_SESSION_D 1
 #define CORKBINGO_SESSION_WIDTHS 2
@@ -155,7 +168,8 @@ uint32_t corkbingo_operations(const uint8_t *file, size_t file_len, uint64_t *ou
 uint32_t corkbingo_bound(uint64_t m, uint64_t *out, size_t out_len);
 
 /* The grid of a file. Answer, 14 words: the refusal; u1 to u10, the count of values of each input
- * on the grid, 0 past the d-th; G, their product over the d inputs. */
+ * on the grid, 0 past the d-th; G, their product over the d inputs. The values of an input on the
+ * grid are consecutive, from its lowest one up. */
 uint32_t corkbingo_grid(const uint8_t *file, size_t file_len, uint64_t *out, size_t out_len);
 
 /* Evaluates a file at a full-width vector. Answer, 4 words: the refusal; the output, the exact
@@ -168,8 +182,9 @@ uint32_t corkbingo_evaluate(const uint8_t *file, size_t file_len,
 
 /* Makes the difference table of a file. Answer, 3 words: the refusal. The first G entries of the
  * table slice get the cells: in dictionary order, the first input weighing most, cell k is the
- * k-fold forward difference of the outputs at the zero vector, modulo 2^m, for every ki below ui.
- * The others stay untouched. The scratch slice is as after corkbingo_evaluate. */
+ * k-fold forward difference of the outputs at the vector of the lowest values, modulo 2^m, for
+ * every ki below ui. The others stay untouched. The scratch slice is as after
+ * corkbingo_evaluate. */
 uint32_t corkbingo_table(const uint8_t *file, size_t file_len,
                          uint64_t *scratch, size_t scratch_len,
                          uint64_t *table, size_t table_len,
@@ -184,8 +199,9 @@ uint32_t corkbingo_difference(const uint64_t *sizes, size_t sizes_len,
                               uint64_t *out, size_t out_len);
 
 /* Sums a difference table back: the output at x is the sum over all cells k of the cell times the
- * binomials (xi choose ki), modulo 2^m. Answer, 3 words: the refusal (by 2, 3, 5 or 13). Reads the
- * first G cells and writes the first G entries of the output slice. */
+ * binomials (xi choose ki), modulo 2^m, where each xi counts from its input's lowest value. Answer,
+ * 3 words: the refusal (by 2, 3, 5 or 13). Reads the first G cells and writes the first G entries
+ * of the output slice. */
 uint32_t corkbingo_sum(const uint64_t *sizes, size_t sizes_len,
                        const uint64_t *table, size_t table_len,
                        uint64_t *outputs, size_t outputs_len,
@@ -199,8 +215,8 @@ uint32_t corkbingo_open(const uint8_t *file1, size_t file1_len,
                         uint64_t *out, size_t out_len);
 
 /* Compares the two files at up to `budget` grid vectors from the session's position on. Answer, 17
- * words: the refusal; the kind; the count of vectors run; x1 to x10; the output of file 1; the
- * output of file 2. By kind:
+ * words: the refusal; the kind; the count of vectors run; the words of x1 to x10; the output of
+ * file 1; the output of file 2. By kind:
  *
  *   spent         none of these vectors differs, and more remain; the position grows by the budget
  *   equivalent    none of these differs, and they reach the end of the grid; the position becomes
@@ -237,8 +253,9 @@ uint32_t corkbingo_continue(const uint8_t *file1, size_t file1_len,
  *                           opening the files is refused
  *   spent, anything else    no text
  *
- * The answer's words are shown as they are. Bytes past the text stay untouched, and there is no
- * ending zero. The refusal of an opening is got as an answer by continuing its session with a
+ * The answer's words are shown as they are: those of signed inputs as int64_t, with a minus sign
+ * where they are negative, all others as uint64_t. Bytes past the text stay untouched, and there is
+ * no ending zero. The refusal of an opening is got as an answer by continuing its session with a
  * budget above 0. */
 uint32_t corkbingo_report(const uint8_t *file1, size_t file1_len,
                           const uint8_t *file2, size_t file2_len,

@@ -1,6 +1,6 @@
 /* Calls each function of the header, on the sample files of document 01: a.dp, x1 x2 with m 2 and
- * word lengths 1 and 2, and b.dp, 0 with the same sizes; on files of ten inputs; with slices of
- * wrong lengths; and with empty slices whose pointers are null. Prints `ok header: K comparisons`,
+ * word lengths 1 and 2, and b.dp, 0 with the same sizes; on files of ten inputs and of a signed one;
+ * with slices of wrong lengths; and with empty slices whose pointers are null. Prints `ok header: K comparisons`,
  * or `FAILED header: what`, and ends with status 1 where something failed. */
 #include "corkbingo.h"
 
@@ -234,11 +234,123 @@ static void ten_inputs(void)
     reported(text, out[0], lines);
 }
 
+/* x1 x2 with m 8, a signed input of 8 bits and an unsigned one of 3, and 0 with the same sizes. */
+static const uint8_t product_signed[39] = {
+    8, 2, 3, 0, CORKBINGO_SIGNED + 8, 3, 0, 0, 0, 0, 0, 0,
+    1, 1, 5,
+    0, 0, 0, 0, 0, 0, 0, 0,
+    1, 0, 0, 0, 0, 0, 0, 0,
+    0, 0, 1, 0, 0, 0, 0, 0,
+};
+static const uint8_t zero_signed[21] = {
+    8, 2, 1, 0, CORKBINGO_SIGNED + 8, 3, 0, 0, 0, 0, 0, 0,
+    2,
+    0, 0, 0, 0, 0, 0, 0, 0,
+};
+
+/* The file with another byte at a place is refused so. */
+static void refused_with(const char *what, size_t place, uint8_t byte, uint64_t number)
+{
+    uint8_t file[39];
+    uint64_t out[CORKBINGO_CHECK_WORDS];
+
+    memcpy(file, product_signed, sizeof file);
+    file[place] = byte;
+    same(what, 0, corkbingo_check(file, sizeof file, out, CORKBINGO_CHECK_WORDS), 1);
+    same(what, 1, out[CORKBINGO_REFUSAL_NUMBER], number);
+}
+
+/* The output at a vector, or the number that refuses it. */
+static void valued(const char *what, int64_t x1, uint64_t x2, uint64_t number, uint64_t output)
+{
+    uint64_t vector[2] = {(uint64_t)x1, x2}, scratch[3], out[CORKBINGO_EVALUATE_WORDS];
+
+    same(what, 0, corkbingo_evaluate(product_signed, sizeof product_signed, vector, 2, scratch, 3, out,
+                                     CORKBINGO_EVALUATE_WORDS), 1);
+    same(what, 1, out[CORKBINGO_REFUSAL_NUMBER], number);
+    same(what, 2, out[3], output);
+}
+
+static void signed_input(void)
+{
+    static const uint64_t accepted[CORKBINGO_CHECK_WORDS] = {0, 0, 0};
+    static const uint64_t other_sizes[CORKBINGO_OPEN_WORDS] = {9, 0, 0};
+    static const uint64_t grid[CORKBINGO_GRID_WORDS] = {0, 0, 0, 10, 8, 0, 0, 0, 0, 0, 0, 0, 0, 80};
+    static const uint64_t opened[CORKBINGO_SESSION_WORDS] = {8, 2, CORKBINGO_SIGNED + 8, 3};
+    static const uint64_t after[CORKBINGO_SESSION_WORDS] = {
+        8, 2, CORKBINGO_SIGNED + 8, 3, 0, 0, 0, 0, 0, 0, 0, 0, 2, CORKBINGO_MARK_DIFFER};
+    static const uint64_t shown[CORKBINGO_CONTINUE_WORDS] = {
+        0, 0, 0, CORKBINGO_KIND_DIFFERS, 2, UINT64_MAX - 127, 1, 0, 0, 0, 0, 0, 0, 0, 0, 128, 0};
+    static const uint64_t unlike[CORKBINGO_CONTINUE_WORDS] = {101};
+    static const char lines[] = "grid 10 8 = 80\ndiffer -128 1 : 128 0\nrun 2\n";
+    uint64_t scratch[3], session[CORKBINGO_SESSION_WORDS], out[CORKBINGO_CONTINUE_WORDS];
+    uint64_t cells[80], outputs[80];
+    uint8_t text[CORKBINGO_TEXT_BYTES], other[21];
+    uint32_t returned;
+
+    returned = corkbingo_check(product_signed, sizeof product_signed, out, CORKBINGO_CHECK_WORDS);
+    answer("check, signed", returned, out, accepted, CORKBINGO_CHECK_WORDS);
+    refused_with("a signed input of 64 bits", 4, CORKBINGO_SIGNED + 64, 0);
+    refused_with("a signed input of 0 bits", 4, CORKBINGO_SIGNED, 5);
+    refused_with("a signed input of 65 bits", 4, CORKBINGO_SIGNED + 65, 5);
+    refused_with("an unused width byte", 6, CORKBINGO_SIGNED, 5);
+    returned = corkbingo_grid(product_signed, sizeof product_signed, out, CORKBINGO_GRID_WORDS);
+    answer("grid, signed", returned, out, grid, CORKBINGO_GRID_WORDS);
+    valued("the lowest value", -128, 1, 0, 128);
+    valued("the highest value", 127, 7, 0, 121);
+    valued("minus 3 times 5", -3, 5, 0, 241);
+    valued("below the lowest value", -129, 0, 14, 0);
+    valued("above the highest value", 128, 0, 14, 0);
+    valued("the bits of minus 1 alone", 255, 0, 14, 0);
+    valued("a negative word of an unsigned input", 0, UINT64_MAX, 14, 0);
+
+    /* (t - 128) x2 is 128 x2 + t x2 modulo 256 */
+    returned = corkbingo_table(product_signed, sizeof product_signed, scratch, 3, cells, 80, out,
+                               CORKBINGO_TABLE_WORDS);
+    answer("table, signed", returned, out, accepted, CORKBINGO_TABLE_WORDS);
+    for (size_t index = 0; index < 80; index++)
+        same("cells, signed", index, cells[index], index == 1 ? 128 : index == 9);
+    returned = corkbingo_sum(opened, CORKBINGO_SIZES_WORDS, cells, 80, outputs, 80, out, CORKBINGO_SUM_WORDS);
+    answer("sum, signed", returned, out, accepted, CORKBINGO_SUM_WORDS);
+    for (size_t index = 0; index < 80; index++)
+        same("outputs, signed", index, outputs[index], (128 + index / 8) * (index % 8) % 256);
+
+    returned = corkbingo_open(product_signed, sizeof product_signed, zero_signed, sizeof zero_signed, session,
+                              CORKBINGO_SESSION_WORDS, out, CORKBINGO_OPEN_WORDS);
+    answer("open, signed", returned, out, accepted, CORKBINGO_OPEN_WORDS);
+    answer("session, signed", returned, session, opened, CORKBINGO_SESSION_WORDS);
+    session[CORKBINGO_SESSION_WIDTHS] = CORKBINGO_WORD_LENGTH(session[CORKBINGO_SESSION_WIDTHS]);
+    same("word length", 0, session[CORKBINGO_SESSION_WIDTHS], 8);
+    returned = corkbingo_continue(product_signed, sizeof product_signed, zero_signed, sizeof zero_signed, session,
+                                  CORKBINGO_SESSION_WORDS, 1, scratch, 3, out, CORKBINGO_CONTINUE_WORDS);
+    answer("a session of unsigned inputs", returned, out, unlike, CORKBINGO_CONTINUE_WORDS);
+    session[CORKBINGO_SESSION_WIDTHS] += CORKBINGO_SIGNED;
+    returned = corkbingo_continue(product_signed, sizeof product_signed, zero_signed, sizeof zero_signed, session,
+                                  CORKBINGO_SESSION_WORDS, UINT64_MAX, scratch, 3, out, CORKBINGO_CONTINUE_WORDS);
+    answer("differs, signed", returned, out, shown, CORKBINGO_CONTINUE_WORDS);
+    same("the value shown", 0, (int64_t)out[CORKBINGO_ANSWER_VECTOR] == -128, 1);
+    answer("session of differs, signed", returned, session, after, CORKBINGO_SESSION_WORDS);
+    returned = corkbingo_report(product_signed, sizeof product_signed, zero_signed, sizeof zero_signed, shown,
+                                CORKBINGO_CONTINUE_WORDS, 2, text, CORKBINGO_TEXT_BYTES, out,
+                                CORKBINGO_REPORT_WORDS);
+    same("report, signed", 0, returned, 1);
+    reported(text, out[0], lines);
+
+    memcpy(other, zero_signed, sizeof other);
+    other[4] = CORKBINGO_WORD_LENGTH(other[4]);
+    returned = corkbingo_open(product_signed, sizeof product_signed, other, sizeof other, session,
+                              CORKBINGO_SESSION_WORDS, out, CORKBINGO_OPEN_WORDS);
+    answer("open, signed and not", returned, out, other_sizes, CORKBINGO_OPEN_WORDS);
+}
+
 /* The names of the header have the figures of the layouts. */
 static void names(void)
 {
-    same("version", 0, CORKBINGO_VERSION, 5);
+    same("version", 0, CORKBINGO_VERSION, 6);
     same("inputs", 0, CORKBINGO_INPUTS, 10);
+    same("signed", 0, CORKBINGO_SIGNED, 128);
+    same("word length of a signed input", 0, CORKBINGO_WORD_LENGTH(CORKBINGO_SIGNED + 64), 64);
+    same("word length of an unsigned input", 0, CORKBINGO_WORD_LENGTH(64), 64);
     same("head of 1 input", 0, CORKBINGO_HEAD_BYTES(1), 12);
     same("head of 8 inputs", 0, CORKBINGO_HEAD_BYTES(8), 12);
     same("head of 9 inputs", 0, CORKBINGO_HEAD_BYTES(9), 14);
@@ -390,6 +502,7 @@ int main(void)
     tables();
     sessions();
     ten_inputs();
+    signed_input();
     names();
     lengths();
     empty();

@@ -1,8 +1,8 @@
 /* Runs every call of the header on a thread whose stack has just CORKBINGO_STACK_BYTES: short and
- * long files, every path of a continue call, refusals, and wrong layouts. Below the stack stands a
- * page that nothing may touch: a call that takes more ends the program by a signal. Counts what each
- * call writes of the stack beyond what a thread that makes none does, which is at most MOST bytes.
- * Prints the most, with `ok stack: K calls`, or `FAILED stack: what`, and ends with status 1 where
+ * long files, signed inputs, every path of a continue call, refusals, and wrong layouts. Below the
+ * stack stands a page that nothing may touch: a call that takes more ends the program by a signal.
+ * Counts what each call writes of the stack beyond what a thread that makes none does, which is at
+ * most MOST bytes. Prints the most, with `ok stack: K calls`, or `FAILED stack: what`, and ends with status 1 where
  * something failed. */
 #define _DEFAULT_SOURCE
 #include "corkbingo.h"
@@ -153,14 +153,14 @@ static void *by_report(void *ignored)
     return ignored;
 }
 
-/* Sizes with m 16 and d inputs of so many bits. */
-static void resize(size_t d, uint64_t bits)
+/* Sizes with m 16 and d inputs of this width byte. */
+static void resize(size_t d, uint64_t width)
 {
     memset(sizes, 0, sizeof sizes);
     sizes[CORKBINGO_SESSION_M] = 16;
     sizes[CORKBINGO_SESSION_D] = d;
     for (size_t i = 0; i < d; i++)
-        sizes[CORKBINGO_SESSION_WIDTHS + i] = bits;
+        sizes[CORKBINGO_SESSION_WIDTHS + i] = width;
 }
 
 /* A file of these sizes and n steps: the first input, the last one, and then sums of the step before
@@ -208,7 +208,8 @@ static void resume(const char *what, uint64_t vectors, uint64_t kind)
 /* Every call on files of n1 and n2 steps. */
 static void all(size_t n1, size_t n2)
 {
-    printf("%zu and %zu steps, %d inputs\n", n1, n2, (int)sizes[CORKBINGO_SESSION_D]);
+    printf("%zu and %zu steps, %d inputs of width byte %d\n", n1, n2, (int)sizes[CORKBINGO_SESSION_D],
+           (int)sizes[CORKBINGO_SESSION_WIDTHS]);
     fill(0, n1, 0);
     fill(1, n2, 0);
     run("check", by_check);
@@ -254,6 +255,8 @@ int main(void)
     run("bound", by_bound);
     for (size_t i = 0; i < sizeof counts / sizeof counts[0]; i++) {
         resize(2, 16); /* 18 * 18 vectors */
+        all(counts[i][0], counts[i][1]);
+        resize(2, CORKBINGO_SIGNED + 16); /* as many */
         all(counts[i][0], counts[i][1]);
         resize(CORKBINGO_INPUTS, 1); /* 1,024 */
         all(counts[i][0], counts[i][1]);

@@ -1,7 +1,7 @@
 //! What the C functions answer, in the layouts of include/corkbingo.h.
 
 use crate::bound;
-use crate::file::{Refusal, operations as stretch, read};
+use crate::file::{Datapath, Refusal, operations as stretch, read};
 use crate::grid;
 use crate::sizes::{INPUTS, sound_m};
 use crate::value;
@@ -12,7 +12,7 @@ pub(crate) const ACCEPTED: Refusal = Refusal {
     step: 0,
 };
 
-pub(crate) fn words(refusal: Refusal) -> [u64; 3] {
+pub(crate) fn refusal_words(refusal: Refusal) -> [u64; 3] {
     [refusal.number, refusal.file, refusal.step]
 }
 
@@ -21,7 +21,7 @@ pub const NUMBERS: [u64; 17] = [0, 1, 2, 3, 4, 5, 6, 7, 8, 9, 11, 12, 13, 14, 10
 
 /// Number, file, step.
 pub fn check(file: &[u8]) -> [u64; 3] {
-    words(read(file, 1).err().unwrap_or(ACCEPTED))
+    refusal_words(read(file, 1).err().unwrap_or(ACCEPTED))
 }
 
 /// Start and length of the operation stretch.
@@ -49,7 +49,7 @@ pub const GRID: usize = 4 + INPUTS;
 pub fn grid(file: &[u8]) -> [u64; GRID] {
     let mut answer = [0; GRID];
     match read(file, 1) {
-        Err(refusal) => answer[..3].copy_from_slice(&words(refusal)),
+        Err(refusal) => answer[..3].copy_from_slice(&refusal_words(refusal)),
         Ok(path) => {
             let axes = grid::axes(&path.sizes);
             answer[3..3 + axes.len()].copy_from_slice(&axes);
@@ -69,24 +69,30 @@ pub struct Evaluation {
     pub exact: bool,
 }
 
-/// The conditions 1 to 8, then 12, then 14. An accepted call clears the first N scratch entries, a
-/// refused one none.
-pub fn evaluate(file: &[u8], vector: &[u64], scratch: &[u64]) -> Evaluation {
+/// The datapath and the vector of an accepted call, or its refusal: the conditions 1 to 8, then 12,
+/// then 14.
+fn judge(file: &[u8], words: &[u64], scratch: usize) -> Result<(Datapath, Vec<i128>), Refusal> {
+    let path = read(file, 1)?;
+    if scratch < path.steps.len() {
+        return Err(Refusal::plain(12));
+    }
+    let vector = path.sizes.vector(words).ok_or(Refusal::plain(14))?;
+    Ok((path, vector))
+}
+
+/// Evaluates at the vector that these words give. An accepted call clears the first N scratch
+/// entries, a refused one none.
+pub fn evaluate(file: &[u8], words: &[u64], scratch: &[u64]) -> Evaluation {
     let mut scratch = scratch.to_vec();
-    let path = match read(file, 1) {
-        Ok(path) if scratch.len() < path.steps.len() => Err(Refusal::plain(12)),
-        Ok(path) if !path.sizes.full_width(vector) => Err(Refusal::plain(14)),
-        verdict => verdict,
-    };
-    let (refusal, output, exact) = match path {
+    let (refusal, output, exact) = match judge(file, words, scratch.len()) {
         Err(refusal) => (refusal, 0, false),
-        Ok(path) => {
+        Ok((path, vector)) => {
             scratch[..path.steps.len()].fill(0);
-            let found = value::output(&path, vector);
+            let found = value::output(&path, &vector);
             (ACCEPTED, found.output, found.exact)
         }
     };
-    let [number, file, step] = words(refusal);
+    let [number, file, step] = refusal_words(refusal);
     Evaluation {
         answer: [number, file, step, output],
         scratch,

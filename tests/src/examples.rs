@@ -10,15 +10,15 @@ pub struct Outputs {
     pub m: u64,
     pub widths: Vec<u64>,
     pub polynomial: Expression,
-    pub outputs: Vec<(Vec<u64>, u64)>,
+    pub outputs: Vec<(Vec<i128>, u64)>,
 }
 
 impl Outputs {
-    fn new(
+    pub(crate) fn new(
         name: &'static str,
         sizes: (u64, &[u64]),
         polynomial: Expression,
-        outputs: Vec<(Vec<u64>, u64)>,
+        outputs: Vec<(Vec<i128>, u64)>,
     ) -> Outputs {
         Outputs {
             name,
@@ -31,7 +31,7 @@ impl Outputs {
 }
 
 /// The outputs at consecutive values of one input, from `first` on.
-fn row(first: u64, outputs: &[u64]) -> Vec<(Vec<u64>, u64)> {
+fn row(first: i128, outputs: &[u64]) -> Vec<(Vec<i128>, u64)> {
     (first..)
         .map(|x| vec![x])
         .zip(outputs.iter().copied())
@@ -39,7 +39,7 @@ fn row(first: u64, outputs: &[u64]) -> Vec<(Vec<u64>, u64)> {
 }
 
 /// The outputs at x1 0 and 1 and, for each, x2 0 to 3.
-fn block(outputs: [u64; 8]) -> Vec<(Vec<u64>, u64)> {
+fn block(outputs: [u64; 8]) -> Vec<(Vec<i128>, u64)> {
     let vectors = (0..8).map(|place| vec![place / 4, place % 4]);
     vectors.zip(outputs).collect()
 }
@@ -272,7 +272,7 @@ mod tests {
     use super::*;
     use crate::compare::compare_paths;
     use crate::file::read;
-    use crate::grid::axes;
+    use crate::grid::{axes, vectors};
     use crate::sizes::Sizes;
     use crate::value::output;
 
@@ -292,7 +292,7 @@ mod tests {
     fn the_reference_gives_the_verdicts() {
         for pair in pairs() {
             let [left, right] = pair.files.each_ref().map(|file| read(file, 1).unwrap());
-            let found = compare_paths(&axes(&left.sizes), &left, &right);
+            let found = compare_paths(vectors(&left.sizes), &left, &right);
             assert_eq!(found, pair.expected, "{}", pair.name);
         }
     }

@@ -65,9 +65,9 @@ impl Expression {
     }
 
     /// The integer value at a vector, for values that stay small.
-    pub fn at(&self, vector: &[u64]) -> i128 {
+    pub fn at(&self, vector: &[i128]) -> i128 {
         match self {
-            Expression::Input(input) => i128::from(vector[*input]),
+            Expression::Input(input) => vector[*input],
             Expression::Constant(number) => i128::from(*number),
             Expression::Add(left, right) => left.at(vector) + right.at(vector),
             Expression::Subtract(left, right) => left.at(vector) - right.at(vector),
@@ -128,7 +128,8 @@ impl Expression {
 mod tests {
     use super::*;
     use crate::file::read;
-    use crate::grid::vectors;
+    use crate::grid::full_width;
+    use crate::sizes::SIGNED;
     use crate::value::output;
 
     #[test]
@@ -141,10 +142,12 @@ mod tests {
         ];
         for expression in list {
             for m in [1, 5, 8, 64] {
-                let path = read(&expression.file(m, &[3, 3]), 1).unwrap();
-                for vector in vectors(&[8, 8]) {
-                    let expected = expression.at(&vector).rem_euclid(1 << m) as u64;
-                    assert_eq!(output(&path, &vector).output, expected);
+                for widths in [[3, 3], [SIGNED + 3, 3], [SIGNED + 3, SIGNED + 3]] {
+                    let path = read(&expression.file(m, &widths), 1).unwrap();
+                    for vector in full_width(&path.sizes) {
+                        let expected = expression.at(&vector).rem_euclid(1 << m) as u64;
+                        assert_eq!(output(&path, &vector).output, expected);
+                    }
                 }
             }
         }

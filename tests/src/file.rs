@@ -2,15 +2,15 @@
 
 use crate::sizes::{INPUTS, Sizes, sound_d, sound_m, sound_widths};
 
-/// The most inputs of a file with the short head, which holds so many word lengths. The long head
-/// of a file with more inputs holds as many as there can be.
+/// The most inputs of a file with the short head, which holds so many widths. The long head of a
+/// file with more inputs holds as many as there can be.
 pub const SHORT_INPUTS: usize = 8;
 
 /// The most steps that a file may have.
 pub const STEPS: usize = 1024;
 
 /// The length of the head, the bytes before the operations, of a file with d inputs: m, d, two
-/// bytes for N, and the word lengths.
+/// bytes for N, and the widths.
 pub const fn head(d: usize) -> usize {
     if d <= SHORT_INPUTS {
         4 + SHORT_INPUTS

@@ -1,14 +1,14 @@
-//! A second implementation of document 01, in plain Rust with exact integers.
+//! A second implementation of documents 01 and 02, in plain Rust with exact integers.
 //!
-//! It is written from document 01 alone and shares nothing with the product: no table, no code, no
+//! It is written from these two alone and shares nothing with the product: no table, no code, no
 //! wrapping arithmetic. The test program `conformance` holds the product against it.
 //!
 //! | Module | Subject |
 //! |---|---|
 //! | `big` | signed integers of any size |
-//! | `sizes` | m, d and the word lengths, and their rules 2, 3 and 5 |
+//! | `sizes` | m, d and the widths, and their rules 2, 3 and 5; the values of an input as words |
 //! | `file` | reading a datapath file, refusals 1 to 8, the operation stretch |
-//! | `older` | the reader of versions that take eight inputs at most |
+//! | `older` | the reader of versions that take eight unsigned inputs at most |
 //! | `value` | exact values of the steps; the output |
 //! | `bound` | L(m) |
 //! | `grid` | axes, places, vectors, dictionary order |
@@ -23,6 +23,7 @@
 //! | `examples` | the worked examples of document 002 |
 //! | `newton_examples` | the difference tables of both documents |
 //! | `ten_inputs` | files, pairs and tables of eight to ten inputs |
+//! | `signed` | files, pairs, outputs and tables of signed inputs |
 //! | `random` | a generator of numbers with a fixed seed |
 //! | `samples` | random files, sound and damaged |
 //! | `twins` | random pairs of datapaths with the same sizes |
@@ -46,6 +47,7 @@ pub mod random;
 pub mod report;
 pub mod samples;
 pub mod sessions;
+pub mod signed;
 pub mod sizes;
 pub mod spots;
 pub mod tables;

@@ -4,7 +4,7 @@
 use crate::file::{Datapath, Step};
 use crate::random::Random;
 use crate::samples::top;
-use crate::sizes::Sizes;
+use crate::sizes::{Sizes, is_signed, word_length};
 use crate::twins::{Kind, twin};
 
 /// No product is longer, in bits, so that exact values stay short in files of any length.
@@ -35,9 +35,17 @@ impl Mix<'_> {
         }
     }
 
+    /// The length of the values of an input on the grid: they are below 66, but where it is signed.
+    fn grid_bits(&self, input: usize) -> u64 {
+        match self.sizes.widths[input] {
+            width if is_signed(width) => word_length(width).max(7),
+            _ => 7,
+        }
+    }
+
     fn push(&mut self, step: Step) -> usize {
         let (depends, bits) = match step {
-            Step::Input(input) => (input + 1 == self.sizes.d(), 7),
+            Step::Input(input) => (input + 1 == self.sizes.d(), self.grid_bits(input)),
             Step::Constant(_) => (false, self.sizes.m),
             Step::Add(left, right) | Step::Subtract(left, right) => (
                 self.depends[left] || self.depends[right],
@@ -159,14 +167,21 @@ mod tests {
     use super::*;
     use crate::file::{read, write};
     use crate::sessions::Survey;
+    use crate::sizes::SIGNED;
 
     #[test]
     fn counts_are_exact_and_outputs_stay() {
         let mut random = Random::new(0x313);
         for m in [1, 5, 32, 64] {
-            let widths = vec![1, 2, 1];
-            let sizes = Sizes { m, widths };
-            for count in [1, 2, 3, 10, 70] {
+            for (count, widths) in [
+                (1, vec![1, 2, 1]),
+                (2, vec![1, SIGNED + 2, 1]),
+                (3, vec![1, 2, 1]),
+                (10, vec![1, 2, 1]),
+                (70, vec![1, 2, 1]),
+                (70, vec![SIGNED + 1, 2, SIGNED + 2]),
+            ] {
+                let sizes = Sizes { m, widths };
                 for used in [&[0, 1, 2][..], &[0, 1], &[2], &[]] {
                     let first = path(&mut random, &sizes, count, used);
                     assert_eq!(first.steps.len(), count);

@@ -1,13 +1,14 @@
-//! Binomials, forward differences at the zero vector, and the sums that give the values back.
+//! Binomials, forward differences at the lowest values, and the sums that give the values back.
 //!
-//! Cells and values are numbers below 2^m, in dictionary order over the axes. Each of the two
+//! Cells and values are numbers below 2^m, in dictionary order over the axes; each input counts from
+//! its lowest value, so that x here is a list of digits and not a vector. Each of the two
 //! directions has two ways. One works on a whole table, input by input: differences as document
 //! 002 defines them (IV.1 and V.2), by successive application; sums by the binomials along each
 //! input. The other gives a single entry from its closed form over all inputs at once: formula (7)
 //! of document 002, and the sum of document 01. Where `TERMS` allows, the two are compared.
 
 use crate::big::Big;
-use crate::grid::{place_of, size, vectors};
+use crate::grid::{digits, place_of, size};
 use std::sync::LazyLock;
 
 /// The most terms of closed forms that are worked out to confirm a whole table.
@@ -105,8 +106,8 @@ fn confirm(axes: &[u64], cells: &[u64], closed: impl Fn(&[u64]) -> u64) {
     if axes.iter().map(terms).product::<u128>() > TERMS {
         return;
     }
-    for (vector, &cell) in vectors(axes).zip(cells) {
-        let expected = closed(&vector);
+    for (at, &cell) in digits(axes).zip(cells) {
+        let expected = closed(&at);
         assert_eq!(cell, expected, "the reference's two ways disagree");
     }
 }
@@ -139,9 +140,9 @@ fn weighted(
 ) -> u64 {
     let bounds: Vec<u64> = top.iter().map(|entry| entry + 1).collect();
     let mut total = 0;
-    for vector in vectors(&bounds) {
-        let cell = u128::from(cells[place_of(axes, &vector) as usize]);
-        let weights = top.iter().zip(&vector).map(|(&x, &k)| weight(x, k));
+    for at in digits(&bounds) {
+        let cell = u128::from(cells[place_of(axes, &at) as usize]);
+        let weights = top.iter().zip(&at).map(|(&x, &k)| weight(x, k));
         let term = weights.fold(cell, |term, weight| cut(m, term * cut(m, weight)));
         total = cut(m, total + term);
     }
@@ -212,7 +213,7 @@ mod tests {
         let axes = [2; 10];
         let cells: Vec<u64> = (0..size(&axes)).map(|_| random.word() & top(9)).collect();
         let (table, values) = (differences(9, &axes, &cells), sums(9, &axes, &cells));
-        for (place, at) in vectors(&axes).enumerate() {
+        for (place, at) in digits(&axes).enumerate() {
             assert_eq!(table[place], difference_at(9, &axes, &cells, &at));
             assert_eq!(values[place], sum_at(9, &axes, &cells, &at));
         }

@@ -1,9 +1,10 @@
-//! The reader of versions that take at most eight inputs: conditions 1 to 8 with a head of 12 bytes
-//! in every file and d from 1 to 8.
+//! The reader of versions that take at most eight inputs, all unsigned: conditions 1 to 8 with a head
+//! of 12 bytes in every file, d from 1 to 8 and word lengths from 1 to 64.
 //!
-//! Such readers are in use, and meet files of nine and ten inputs. They are to refuse them by 3, or
-//! by 1 or 2 where these come first, and never to take one for another datapath. So this reader
-//! stays as it is, with lengths of its own; a step is read as in `file`.
+//! Such readers are in use, and meet files of nine and ten inputs and of signed ones. They are to
+//! refuse the former by 3 and the latter by 5, or by a number that comes first, and never to take one
+//! for another datapath. So this reader stays as it is, with lengths of its own; a step is read as
+//! in `file`.
 
 use crate::file::{Datapath, Refusal, STEPS, read_steps};
 use crate::sizes::{Sizes, sound_m};
@@ -52,39 +53,51 @@ mod tests {
     use crate::samples::{self, SHAPES};
     use std::collections::BTreeMap;
 
-    /// How often the older reader gave each number (0: accepted) where d is 9 or 10, and where it is
-    /// not.
+    /// How often the older reader gave each number (0: accepted) where d is 9 or 10, where it is not
+    /// and an input is marked as signed, and for the other files.
     #[derive(Default)]
     struct Seen {
         many: BTreeMap<u64, u64>,
-        few: BTreeMap<u64, u64>,
+        signed: BTreeMap<u64, u64>,
+        plain: BTreeMap<u64, u64>,
+    }
+
+    /// Whether d is 1 to 8 and the width of an input has the mark.
+    fn marked(bytes: &[u8]) -> bool {
+        let d = bytes.get(1).map_or(0, |&d| usize::from(d));
+        let widths = bytes.get(4..4 + d).filter(|_| d <= INPUTS);
+        widths.is_some_and(|widths| widths.iter().any(|&width| width >= 128))
     }
 
     impl Seen {
-        /// Where d is 9 or 10, the number is 3, or 1 or 2 exactly where these come first. Otherwise
-        /// the two readers agree: on the datapath, or on number, file and step.
+        /// Where d is 9 or 10, the number is 3, or 1 or 2 exactly where these come first. Of a signed
+        /// input it is 5, or 1, 2 or 4 exactly where these come first. Otherwise the two readers
+        /// agree: on the datapath, or on number, file and step.
         fn compare(&mut self, bytes: &[u8]) {
             let older = read(bytes, 2);
             let number = older.as_ref().map_or_else(|refusal| refusal.number, |_| 0);
-            let seen = match bytes.get(1) {
-                Some(9 | 10) => {
-                    let first = match bytes[0] {
-                        _ if bytes.len() < 12 => 1,
-                        0 | 65.. => 2,
-                        _ => 3,
-                    };
-                    let expected = Refusal {
-                        number: first,
-                        file: 2,
-                        step: 0,
-                    };
-                    assert_eq!(older, Err(expected), "{bytes:?}");
-                    &mut self.many
+            let many = matches!(bytes.get(1), Some(9 | 10));
+            let seen = if many || marked(bytes) {
+                let first = match bytes {
+                    _ if bytes.len() < 12 => 1,
+                    [0 | 65..=255, ..] => 2,
+                    _ if many => 3,
+                    [_, _, 0, 0, ..] | [_, _, 1..=255, 4, ..] | [_, _, _, 5..=255, ..] => 4,
+                    _ => 5,
+                };
+                let expected = Refusal {
+                    number: first,
+                    file: 2,
+                    step: 0,
+                };
+                assert_eq!(older, Err(expected), "{bytes:?}");
+                match many {
+                    true => &mut self.many,
+                    false => &mut self.signed,
                 }
-                _ => {
-                    assert_eq!(older, file::read(bytes, 2), "{bytes:?}");
-                    &mut self.few
-                }
+            } else {
+                assert_eq!(older, file::read(bytes, 2), "{bytes:?}");
+                &mut self.plain
             };
             *seen.entry(number).or_default() += 1;
         }
@@ -136,11 +149,34 @@ mod tests {
     }
 
     #[test]
+    fn files_of_signed_inputs_are_refused() {
+        let mut random = Random::new(0x01de4);
+        let mut seen = Seen::default();
+        for d in 1..=INPUTS {
+            for bytes in files(&mut random, d, 4) {
+                for input in [0, d / 2, d - 1] {
+                    let mut signed = bytes.clone();
+                    signed[4 + input] |= 128;
+                    assert!(file::read(&signed, 1).unwrap().sizes.signed());
+                    assert_eq!(read(&signed, 1).unwrap_err().number, 5);
+                    seen.damage(&signed);
+                }
+            }
+        }
+        assert_eq!(
+            seen.signed.keys().copied().collect::<Vec<_>>(),
+            [1, 2, 4, 5]
+        );
+        assert!(seen.signed[&5] > 100_000);
+    }
+
+    #[test]
     fn other_files_are_read_alike() {
         let mut random = Random::new(0x01de3);
         let mut seen = Seen::default();
         for d in 1..=INPUTS {
-            for bytes in files(&mut random, d, 8) {
+            let list = files(&mut random, d, 6);
+            for bytes in list.into_iter().filter(|bytes| !marked(bytes)) {
                 assert_eq!(read(&bytes, 1).unwrap().sizes.d(), d);
                 seen.damage(&bytes);
                 for _ in 0..20 {
@@ -154,9 +190,9 @@ mod tests {
             seen.compare(&samples::noise(&mut random));
         }
         assert_eq!(
-            seen.few.keys().copied().collect::<Vec<_>>(),
+            seen.plain.keys().copied().collect::<Vec<_>>(),
             Vec::from_iter(0..=8)
         );
-        assert!(seen.few[&0] > 1_000);
+        assert!(seen.plain[&0] > 1_000);
     }
 }

@@ -71,7 +71,7 @@ pub fn equivalent(run: u64) -> Comparison {
     Comparison { verdict, run }
 }
 
-pub fn differs(vector: &[u64], outputs: [u64; 2], run: u64) -> Comparison {
+pub fn differs(vector: &[i128], outputs: [u64; 2], run: u64) -> Comparison {
     let vector = vector.to_vec();
     let verdict = Verdict::Differs { vector, outputs };
     Comparison { verdict, run }
@@ -170,18 +170,16 @@ mod tests {
     use super::*;
     use crate::compare::compare_paths;
     use crate::file::read;
-    use crate::grid::axes;
+    use crate::grid::{full_width, vectors};
     use crate::ten_inputs;
 
     #[test]
     fn the_reference_gives_the_verdicts() {
         for pair in pairs().into_iter().chain(ten_inputs::pairs()) {
             let [left, right] = pair.files.each_ref().map(|file| read(file, 1).unwrap());
-            let grid = axes(&left.sizes);
-            let found = compare_paths(&grid, &left, &right);
+            let found = compare_paths(vectors(&left.sizes), &left, &right);
             assert_eq!(found, pair.expected, "{}", pair.name);
-            let full: Vec<u64> = left.sizes.widths.iter().map(|&n| 1 << n).collect();
-            let exhaustive = compare_paths(&full, &left, &right);
+            let exhaustive = compare_paths(full_width(&left.sizes), &left, &right);
             assert_eq!(exhaustive.verdict, found.verdict, "{}", pair.name);
         }
     }

@@ -3,6 +3,7 @@
 use crate::file::read;
 use crate::grid::{axes, size};
 use crate::sessions::{ANSWER, DIFFERS, EQUIVALENT, KIND, REFUSED, RUN, SPENT, continued, opened};
+use crate::sizes::value_of;
 
 /// The least length of a text slice.
 pub const ROOM: usize = 512;
@@ -10,8 +11,8 @@ pub const ROOM: usize = 512;
 /// The budget of each continue call.
 pub const BUDGET: u64 = 1_000_000;
 
-fn joined(numbers: &[u64]) -> String {
-    let texts: Vec<String> = numbers.iter().map(u64::to_string).collect();
+fn joined(numbers: &[impl ToString]) -> String {
+    let texts: Vec<String> = numbers.iter().map(ToString::to_string).collect();
     texts.join(" ")
 }
 
@@ -37,8 +38,8 @@ pub fn report(files: [&[u8]; 2]) -> String {
     text(files, &answer, run)
 }
 
-/// The text of an answer of continue on two files, after `run` vectors over all calls; the answer's
-/// words may be anything.
+/// The text of an answer of continue on two files, after `run` vectors over all calls. The answer's
+/// words may be anything: a word of the vector is shown as what it gives its input, in range or not.
 pub fn text(files: [&[u8]; 2], answer: &[u64; ANSWER], run: u64) -> String {
     let kind = answer[KIND];
     if kind == REFUSED {
@@ -51,7 +52,9 @@ pub fn text(files: [&[u8]; 2], answer: &[u64; ANSWER], run: u64) -> String {
     let axes = axes(&sizes);
     let verdict = match kind {
         DIFFERS => {
-            let vector = joined(&answer[RUN + 1..][..sizes.d()]);
+            let values = sizes.widths.iter().zip(&answer[RUN + 1..]);
+            let vector: Vec<i128> = values.map(|(&n, &word)| value_of(n, word)).collect();
+            let vector = joined(&vector);
             format!("differ {vector} : {}", joined(&answer[ANSWER - 2..]))
         }
         _ => String::from("equivalent"),
@@ -63,8 +66,9 @@ pub fn text(files: [&[u8]; 2], answer: &[u64; ANSWER], run: u64) -> String {
 #[cfg(test)]
 mod tests {
     use super::*;
-    use crate::expression::x;
+    use crate::expression::{constant, x};
     use crate::pairs::{SAMPLE_A, SAMPLE_B, pairs};
+    use crate::sizes::SIGNED;
     use crate::ten_inputs::{SAMPLE_TEN, ZERO_TEN};
 
     #[test]
@@ -98,6 +102,36 @@ mod tests {
         let longest = text([&largest, &largest], &answer, u64::MAX);
         assert!(longest.starts_with("grid 66 66 66 66 66 66 66 66 66 66 = 1568336880910795776\n"));
         assert_eq!(longest.matches("18446744073709551615").count(), 13);
+        assert!(longest.len() <= ROOM);
+    }
+
+    #[test]
+    fn the_lines_of_signed_inputs() {
+        let constants = [5, 4].map(|number| constant(number).file(8, &[SIGNED + 8]));
+        let lines = "grid 10 = 10\ndiffer -128 : 5 4\nrun 1\n";
+        assert_eq!(report([&constants[0], &constants[1]]), lines);
+        let file = x(2).file(8, &[8, SIGNED + 8, SIGNED + 1, 64, SIGNED + 64]);
+        let files: [&[u8]; 2] = [&file, &file];
+        let mut answer = [0; ANSWER];
+        answer[KIND] = DIFFERS;
+        // any words: those of an unsigned input are plain
+        let words = [u64::MAX, u64::MAX, 1, 1 << 63, 1 << 63];
+        answer[RUN + 1..][..5].copy_from_slice(&words);
+        answer[ANSWER - 2..].copy_from_slice(&[u64::MAX, 1 << 63]);
+        let shown = "18446744073709551615 -1 1 9223372036854775808 -9223372036854775808";
+        let line = format!("differ {shown} : 18446744073709551615 9223372036854775808");
+        assert!(text(files, &answer, 1).contains(&line));
+    }
+
+    #[test]
+    fn the_longest_lines_of_signed_inputs() {
+        let largest = x(10).file(64, &[SIGNED + 64; 10]);
+        let mut answer = [1 << 63; ANSWER];
+        answer[KIND] = DIFFERS;
+        answer[ANSWER - 2..].fill(u64::MAX);
+        let longest = text([&largest, &largest], &answer, u64::MAX);
+        assert_eq!(longest.matches(" -9223372036854775808").count(), 10);
+        assert_eq!(longest.matches("18446744073709551615").count(), 3);
         assert!(longest.len() <= ROOM);
     }
 }

@@ -7,7 +7,7 @@
 
 use crate::file::{Datapath, SHORT_INPUTS, STEPS, Step, head, length, write};
 use crate::random::Random;
-use crate::sizes::{INPUTS, Sizes};
+use crate::sizes::{INPUTS, SIGNED, Sizes, highest, lowest, word_length};
 
 /// How the steps of a random file hang together.
 #[derive(Clone, Copy, Debug)]
@@ -24,7 +24,7 @@ pub enum Shape {
 
 pub const SHAPES: [Shape; 4] = [Shape::Spread, Shape::Horner, Shape::Sums, Shape::Powers];
 
-/// The greatest value of an input of n bits.
+/// The greatest number of n bits.
 pub fn top(n: u64) -> u64 {
     u64::MAX >> (64 - n)
 }
@@ -35,7 +35,8 @@ pub fn sizes(random: &mut Random, m: u64) -> Sizes {
     sizes_of(random, m, d)
 }
 
-/// Sizes with this m and d. Word lengths of 1, of 64, of m and of any number occur.
+/// Sizes with this m and d. Word lengths of 1, of 64, of m and of any number occur, and signed
+/// inputs.
 pub fn sizes_of(random: &mut Random, m: u64, d: usize) -> Sizes {
     let mut width = || match random.below(5) {
         0 => 1,
@@ -44,7 +45,24 @@ pub fn sizes_of(random: &mut Random, m: u64, d: usize) -> Sizes {
         _ => random.between(1, 64),
     };
     let widths = (0..d).map(|_| width()).collect();
-    Sizes { m, widths }
+    marked(random, Sizes { m, widths })
+}
+
+/// How many of a hundred sizes have signed inputs, and how many of their inputs are signed.
+const SIGNED_SIZES: u64 = 25;
+const SIGNED_INPUTS: u64 = 60;
+
+/// The same sizes; of some, an input or more is made signed.
+pub fn marked(random: &mut Random, mut sizes: Sizes) -> Sizes {
+    if random.chance(SIGNED_SIZES) {
+        let one = random.index(sizes.d());
+        for (input, width) in sizes.widths.iter_mut().enumerate() {
+            if input == one || random.chance(SIGNED_INPUTS) {
+                *width += SIGNED;
+            }
+        }
+    }
+    sizes
 }
 
 /// A sound datapath of `count` steps.
@@ -104,14 +122,14 @@ fn leaf(random: &mut Random, sizes: &Sizes) -> Step {
     }
 }
 
-/// A full-width vector: each entry at the lower end, at the upper end or between.
-pub fn vector(random: &mut Random, sizes: &Sizes) -> Vec<u64> {
-    let mut entry = |&n: &u64| match random.below(4) {
-        0 => 0,
-        1 => top(n),
-        _ => random.word() & top(n),
+/// A full-width vector: each value at the lower end, at the upper end or between.
+pub fn vector(random: &mut Random, sizes: &Sizes) -> Vec<i128> {
+    let mut value = |&width: &u64| match random.below(4) {
+        0 => lowest(width),
+        1 => highest(width),
+        _ => lowest(width) + i128::from(random.word() & top(word_length(width))),
     };
-    sizes.widths.iter().map(&mut entry).collect()
+    sizes.widths.iter().map(&mut value).collect()
 }
 
 /// Damages a file; now and then it stays sound. A file too short for a step stays as it is.
@@ -134,7 +152,7 @@ pub fn damage(random: &mut Random, bytes: &mut Vec<u8>) {
         }
         1 => {
             let place = random.index(head);
-            bytes[place] = random.pick(&[0, 1, 8, 9, 10, 11, 64, 65, 255]);
+            bytes[place] = random.pick(&[0, 1, 8, 9, 10, 11, 64, 65, 128, 129, 192, 193, 255]);
         }
         2 => {
             let number = random.pick(&[0, count - 1, count + 1, STEPS + 1]) as u16;
@@ -179,7 +197,7 @@ pub fn noise(random: &mut Random) -> Vec<u8> {
         .map(|_| random.word() as u8)
         .collect();
     let last = if d == INPUTS { 6 } else { 0 };
-    let sound = [64, d as u8, 2, 0, 1, 2, 3, 4, 61, 62, 63, 64, 5, last];
+    let sound = [64, d as u8, 2, 0, 1, 2, 131, 4, 61, 190, 63, 192, 5, last];
     for (byte, sound) in bytes.iter_mut().zip(sound).take(head(d)) {
         if random.chance(80) {
             *byte = sound;
@@ -192,6 +210,7 @@ pub fn noise(random: &mut Random) -> Vec<u8> {
 mod tests {
     use super::*;
     use crate::file::read;
+    use crate::sizes::words_of;
 
     #[test]
     fn sound_files_are_read_back() {
@@ -202,7 +221,8 @@ mod tests {
                 for count in [1, 2, 5, 40, 1024] {
                     let path = read(&file(&mut random, &sizes, count, shape), 1).unwrap();
                     assert_eq!((&path.sizes, path.steps.len()), (&sizes, count));
-                    assert!(sizes.full_width(&vector(&mut random, &sizes)));
+                    let vector = vector(&mut random, &sizes);
+                    assert_eq!(sizes.vector(&words_of(&vector)), Some(vector));
                 }
             }
         }

@@ -1,13 +1,13 @@
 //! Sessions: what opening and continuing answer, in the layouts of include/corkbingo.h.
 
-use crate::calls::{ACCEPTED, words};
+use crate::calls::{ACCEPTED, refusal_words};
 use crate::file::{Datapath, Refusal, read, write};
-use crate::grid::{axes, size, vector_at};
-use crate::sizes::{INPUTS, SIZES};
+use crate::grid::{axes, digits_at, size, vector_of};
+use crate::sizes::{INPUTS, SIZES, Sizes, words_of};
 use crate::value::output;
 use std::ops::Range;
 
-/// The words of a session: m, d, n1 to n10, position, mark.
+/// The words of a session: m, d, the widths of ten inputs, position, mark.
 pub const SESSION: usize = SIZES + 2;
 
 /// The words of an answer: number, file, step, kind, vectors run, x1 to x10, two outputs.
@@ -36,7 +36,7 @@ pub const MARKS: [Mark; 3] = [Mark::Open, Mark::Equal, Mark::Differ];
 
 #[derive(Clone, Debug, PartialEq, Eq)]
 pub struct Session {
-    /// m, d and the ten word lengths; they need not be sound.
+    /// m, d and the ten widths; they need not be sound.
     pub sizes: [u64; SIZES],
     pub position: u64,
     pub mark: Mark,
@@ -123,7 +123,7 @@ pub fn opened(files: [&[u8]; 2]) -> Opened {
         }
     };
     Opened {
-        answer: words(refusal),
+        answer: refusal_words(refusal),
         session: session.words(),
     }
 }
@@ -154,14 +154,21 @@ fn judge(
     Err(Refusal::plain(number))
 }
 
+/// The vector at a place of the grid with these axes.
+fn vector_at(sizes: &Sizes, axes: &[u64], place: u64) -> Vec<i128> {
+    let digits = digits_at(axes, place).expect("a place below G");
+    vector_of(sizes, &digits)
+}
+
 /// Both outputs at a place of the grid.
 fn outputs_at(paths: &[Datapath; 2], axes: &[u64], place: u64) -> [u64; 2] {
-    let vector = vector_at(axes, place).expect("a place below G");
+    let vector = vector_at(&paths[0].sizes, axes, place);
     paths.each_ref().map(|path| output(path, &vector).output)
 }
 
 /// The answer and the position and mark that an accepted call leaves, by the outputs at a place.
 fn run(
+    sizes: &Sizes,
     axes: &[u64],
     position: u64,
     budget: u64,
@@ -173,7 +180,7 @@ fn run(
     for place in position..end {
         let outputs = outputs(place);
         if outputs[0] != outputs[1] {
-            let vector = vector_at(axes, place).expect("a place below G");
+            let vector = words_of(&vector_at(sizes, axes, place));
             answer[KIND] = DIFFERS;
             answer[RUN] = place + 1 - position;
             answer[RUN + 1..][..vector.len()].copy_from_slice(&vector);
@@ -216,12 +223,12 @@ fn continued_by(
         scratch: scratch.to_vec(),
     };
     match judge(files, &before, budget, scratch.len()) {
-        Err(refusal) => after.answer[..3].copy_from_slice(&words(refusal)),
+        Err(refusal) => after.answer[..3].copy_from_slice(&refusal_words(refusal)),
         Ok(paths) => {
             let sizes = before.sizes;
             let axes = axes(&paths[0].sizes);
             let at = |place| outputs(&paths, &axes, place);
-            let (answer, position, mark) = run(&axes, before.position, budget, at);
+            let (answer, position, mark) = run(&paths[0].sizes, &axes, before.position, budget, at);
             after.answer = answer;
             after.session = Session {
                 sizes,

@@ -2,28 +2,28 @@
 
 use crate::file::{Datapath, Step};
 use crate::grid::axes;
-use crate::samples::top;
-use crate::sizes::Sizes;
-use crate::twins::{power_in_factorial, push};
+use crate::sizes::{Sizes, lowest};
+use crate::twins::{less, power_in_factorial, push};
 
 /// Whether a product of the differences between the inputs and all other values on the grid is not
-/// 0 modulo 2^m at the vector. For an input of u values, at t, it is t!(u − 1 − t)! up to its sign.
-pub fn alone(sizes: &Sizes, vector: &[u64]) -> bool {
+/// 0 modulo 2^m at the vector with these digits. For an input of u values, at the digit t, it is
+/// t!(u − 1 − t)! up to its sign.
+pub fn alone(sizes: &Sizes, digits: &[u64]) -> bool {
     let power = |(u, &t): (u64, &u64)| power_in_factorial(t) + power_in_factorial(u - 1 - t);
-    let powers = axes(sizes).into_iter().zip(vector).map(power);
+    let powers = axes(sizes).into_iter().zip(digits).map(power);
     powers.sum::<u64>() < sizes.m
 }
 
-/// Adds such a product for each of these vectors, of which no two are the same.
-pub fn spots(path: &Datapath, vectors: &[Vec<u64>]) -> Datapath {
+/// Adds such a product for each of these lists of digits, of which no two are the same.
+pub fn spots(path: &Datapath, list: &[Vec<u64>]) -> Datapath {
     let sizes = path.sizes.clone();
     let mut steps = path.steps.clone();
     let mut last = steps.len() - 1;
     let factors = factors(&mut steps, &sizes);
-    for vector in vectors {
-        assert!(alone(&sizes, vector), "no difference at {vector:?}");
+    for digits in list {
+        assert!(alone(&sizes, digits), "no difference at {digits:?}");
         let mut product = None;
-        for (row, &t) in factors.iter().zip(vector) {
+        for (row, &t) in factors.iter().zip(digits) {
             let others = row.iter().enumerate().filter(|(j, _)| *j as u64 != t);
             for (_, &factor) in others {
                 product = Some(match product {
@@ -41,15 +41,12 @@ pub fn spots(path: &Datapath, vectors: &[Vec<u64>]) -> Datapath {
 /// Appends the differences between each input and each of its values on the grid.
 fn factors(steps: &mut Vec<Step>, sizes: &Sizes) -> Vec<Vec<usize>> {
     let axes = axes(sizes);
-    let most = axes.iter().copied().max().unwrap_or(0);
-    let constants: Vec<usize> = (0..most)
-        .map(|j| push(steps, Step::Constant(j & top(sizes.m))))
-        .collect();
     let row = |(input, &u): (usize, &u64)| {
         let base = push(steps, Step::Input(input));
-        let used = &constants[1..u as usize];
-        let rest = used.iter().map(|&j| push(steps, Step::Subtract(base, j)));
-        [base].into_iter().chain(rest).collect()
+        let least = lowest(sizes.widths[input]);
+        let value = |j| least + i128::from(j);
+        let factor = |j| less(steps, sizes.m, base, value(j));
+        (0..u).map(factor).collect()
     };
     axes.iter().enumerate().map(row).collect()
 }
@@ -58,26 +55,36 @@ fn factors(steps: &mut Vec<Step>, sizes: &Sizes) -> Vec<Vec<usize>> {
 mod tests {
     use super::*;
     use crate::file::{read, write};
-    use crate::grid::{place_of, vectors};
+    use crate::grid::{digits, place_of};
     use crate::sessions::Survey;
+    use crate::sizes::SIGNED;
 
     #[test]
     fn differences_are_where_they_are_put() {
-        let list: [(u64, &[u64]); 4] = [(1, &[1; 4]), (8, &[1, 1, 8]), (20, &[2, 1, 2]), (9, &[3])];
+        let signed = [SIGNED + 2, 1, SIGNED + 2];
+        let list: [(u64, &[u64]); 7] = [
+            (1, &[1; 4]),
+            (8, &[1, 1, 8]),
+            (20, &[2, 1, 2]),
+            (9, &[3]),
+            (20, &signed),
+            (64, &[SIGNED + 4, SIGNED + 1]),
+            (8, &[SIGNED + 1, 1, SIGNED + 8]),
+        ];
         for (m, widths) in list {
             let widths = widths.to_vec();
             let sizes = Sizes { m, widths };
             let axes = axes(&sizes);
             let steps = vec![Step::Input(0)];
             let path = Datapath { sizes, steps };
-            let all: Vec<Vec<u64>> = vectors(&axes).collect();
-            for vector in &all {
-                let chosen = [vector.clone(), all[0].clone()];
-                let chosen = &chosen[..if *vector == all[0] { 1 } else { 2 }];
+            let all: Vec<Vec<u64>> = digits(&axes).collect();
+            for digits in all.iter().filter(|digits| alone(&path.sizes, digits)) {
+                let chosen = [digits.clone(), all[0].clone()];
+                let chosen = &chosen[..if *digits == all[0] { 1 } else { 2 }];
                 let other = spots(&path, chosen);
                 assert_eq!(read(&write(&other), 1).as_ref(), Ok(&other));
                 let survey = Survey::new([path.clone(), other]);
-                let place = place_of(&axes, vector);
+                let place = place_of(&axes, digits);
                 assert_eq!(survey.first(0), Some(0));
                 assert_eq!(survey.first(1), (place > 0).then_some(place));
                 assert_eq!(survey.first(place + 1), None);

@@ -2,7 +2,7 @@
 //! difference table of a file, difference given outputs, sum.
 
 use crate::big::Big;
-use crate::calls::{ACCEPTED, words};
+use crate::calls::{ACCEPTED, refusal_words};
 use crate::file::{Datapath, Refusal, read};
 use crate::grid::{axes, size, vectors};
 use crate::newton::{differences, exact_differences, sums};
@@ -37,9 +37,8 @@ pub struct Table {
 
 /// The outputs of a file at all grid vectors.
 pub fn outputs(path: &Datapath) -> Vec<u64> {
-    let axes = axes(&path.sizes);
-    let output = |vector: Vec<u64>| output(path, &vector).output;
-    vectors(&axes).map(output).collect()
+    let output = |vector: Vec<i128>| output(path, &vector).output;
+    vectors(&path.sizes).map(output).collect()
 }
 
 /// The difference table of a file. Panics if exact values are worked out and disagree.
@@ -62,8 +61,8 @@ fn exact_table(path: &Datapath, axes: &[u64]) -> Option<Vec<u64>> {
     if size(axes) > EXACT_CELLS {
         return None;
     }
-    let value = |vector: Vec<u64>| exact_values(path, &vector)?.pop();
-    let values: Vec<Big> = vectors(axes).map(value).collect::<Option<_>>()?;
+    let value = |vector: Vec<i128>| exact_values(path, &vector)?.pop();
+    let values: Vec<Big> = vectors(&path.sizes).map(value).collect::<Option<_>>()?;
     let cut = |cell: &Big| cell.modulo_power(path.sizes.m as usize).to_u64();
     exact_differences(axes, values).iter().map(cut).collect()
 }
@@ -86,7 +85,7 @@ pub fn table(file: &[u8], scratch: &[u64], table: &[u64]) -> Made {
             (ACCEPTED, made.exact)
         }
     };
-    let answer = words(refusal);
+    let answer = refusal_words(refusal);
     Made {
         written: Written { answer, cells },
         scratch,
@@ -122,7 +121,7 @@ fn rewritten(
             ACCEPTED
         }
     };
-    let answer = words(refusal);
+    let answer = refusal_words(refusal);
     Some(Written { answer, cells })
 }
 

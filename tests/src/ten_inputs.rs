@@ -72,6 +72,10 @@ pub fn refused() -> Vec<(&'static str, Vec<u8>, [u64; 2])> {
         ("ten, N 1,025", ten(&[(2, 1), (3, 4)], 41), [4, 0]),
         ("nine, n10 1", nine(&[(13, 1)], 41), [5, 0]),
         ("nine, n10 255", nine(&[(13, 255)], 41), [5, 0]),
+        ("nine, n10 128", nine(&[(13, 128)], 41), [5, 0]),
+        ("nine, n10 129", nine(&[(13, 129)], 41), [5, 0]),
+        ("nine, n9 193", nine(&[(12, 193)], 41), [5, 0]),
+        ("ten, n10 128", ten(&[(13, 128)], 41), [5, 0]),
         ("nine, n9 0", nine(&[(12, 0)], 41), [5, 0]),
         ("nine, n9 65", nine(&[(12, 65)], 41), [5, 0]),
         ("ten, n10 0", ten(&[(13, 0)], 41), [5, 0]),
@@ -111,7 +115,7 @@ fn weighted() -> Expression {
 }
 
 /// The vector of ten entries that are 0 but for this one, counted from 1.
-fn alone(number: usize, entry: u64) -> [u64; 10] {
+fn alone(number: usize, entry: i128) -> [i128; 10] {
     let mut vector = [0; 10];
     vector[number - 1] = entry;
     vector

@@ -5,7 +5,7 @@ use crate::file::{Datapath, SHORT_INPUTS, Step};
 use crate::grid::{axes, size};
 use crate::random::Random;
 use crate::samples::{self, Shape, top};
-use crate::sizes::{INPUTS, Sizes};
+use crate::sizes::{INPUTS, Sizes, lowest, word_length};
 
 /// What the second datapath has to do with the first.
 #[derive(Clone, Copy, Debug, PartialEq, Eq, PartialOrd, Ord)]
@@ -46,12 +46,13 @@ pub fn small_sizes(random: &mut Random, m: u64, most: u64) -> Sizes {
     let fewer = random.chance(40);
     while size(&axes(&sizes)) > most {
         let input = random.index(sizes.d());
-        let narrow = sizes.widths.iter().all(|&n| n == 1);
+        let narrow = sizes.widths.iter().all(|&n| word_length(n) == 1);
         if sizes.d() > 1 && (narrow || fewer && random.chance(30)) {
             sizes.widths.remove(input);
         } else {
             let width = &mut sizes.widths[input];
-            *width = random.between(1, 3).min(*width);
+            let n = word_length(*width);
+            *width -= n - random.between(1, 3).min(n);
         }
     }
     sizes
@@ -62,7 +63,7 @@ pub fn many_inputs(random: &mut Random, m: u64) -> Sizes {
     let d = random.between(SHORT_INPUTS as u64, INPUTS as u64);
     let most = if m == 1 { 64 } else { 1 };
     let widths = (0..d).map(|_| random.between(1, most)).collect();
-    Sizes { m, widths }
+    samples::marked(random, Sizes { m, widths })
 }
 
 /// Small sizes, and in `percent` of a hundred draws such of eight to ten inputs, whose grids are
@@ -89,8 +90,8 @@ pub fn twin(random: &mut Random, path: &Datapath, kind: Kind) -> Datapath {
         Kind::Rewritten => rewritten(random, path),
         Kind::Vanishing => vanishing(random, path),
         Kind::Late => {
-            let vector = countable(random, sizes);
-            late(path, &vector)
+            let digits = countable(random, sizes);
+            late(path, &digits)
         }
         Kind::Changed => changed(random, path),
         Kind::Other => self::path(random, sizes),
@@ -136,12 +137,25 @@ fn rewritten(random: &mut Random, path: &Datapath) -> Datapath {
     Datapath { sizes, steps }
 }
 
-/// Appends the falling factorial of degree k, at least 1, of an input, and gives its step.
-fn falling(steps: &mut Vec<Step>, m: u64, input: usize, k: u64) -> usize {
+/// Appends the difference between a step and an integer, and gives its step; where the integer is
+/// 0, this is the step itself.
+pub(crate) fn less(steps: &mut Vec<Step>, m: u64, step: usize, integer: i128) -> usize {
+    if integer == 0 {
+        return step;
+    }
+    let rest = integer.rem_euclid(1 << m) as u64;
+    let constant = push(steps, Step::Constant(rest));
+    push(steps, Step::Subtract(step, constant))
+}
+
+/// Appends the falling factorial of degree k, at least 1, of an input counted from its lowest value,
+/// and gives its step.
+fn falling(steps: &mut Vec<Step>, sizes: &Sizes, input: usize, k: u64) -> usize {
     let base = push(steps, Step::Input(input));
-    (1..k).fold(base, |product, j| {
-        let constant = push(steps, Step::Constant(j & top(m)));
-        let factor = push(steps, Step::Subtract(base, constant));
+    let least = lowest(sizes.widths[input]);
+    let first = less(steps, sizes.m, base, least);
+    (1..k).fold(first, |product, j| {
+        let factor = less(steps, sizes.m, base, least + i128::from(j));
         push(steps, Step::Multiply(product, factor))
     })
 }
@@ -153,7 +167,7 @@ fn vanishing(random: &mut Random, path: &Datapath) -> Datapath {
     let mut steps = path.steps.clone();
     let last = steps.len() - 1;
     let input = random.index(axes.len());
-    let zero = falling(&mut steps, path.sizes.m, input, axes[input]);
+    let zero = falling(&mut steps, &path.sizes, input, axes[input]);
     let any = random.index(path.steps.len());
     let multiple = push(&mut steps, Step::Multiply(zero, any));
     push(&mut steps, Step::Add(last, multiple));
@@ -167,48 +181,56 @@ pub(crate) fn power_in_factorial(k: u64) -> u64 {
 }
 
 /// Whether the product of the falling factorials of these degrees is not 0 modulo 2^m at the
-/// vector of the degrees itself, where it is the product of their factorials.
-pub fn counts(m: u64, vector: &[u64]) -> bool {
-    power_in_factorials(vector) < m
+/// vector that has the degrees as its digits, where it is the product of their factorials.
+pub fn counts(m: u64, digits: &[u64]) -> bool {
+    power_in_factorials(digits) < m
 }
 
-fn power_in_factorials(vector: &[u64]) -> u64 {
-    vector.iter().copied().map(power_in_factorial).sum()
+fn power_in_factorials(digits: &[u64]) -> u64 {
+    digits.iter().copied().map(power_in_factorial).sum()
 }
 
-/// A grid vector that can be made the first difference, late in the grid if m allows.
+/// The digits of a grid vector that can be made the first difference, late in the grid if m allows.
 pub fn countable(random: &mut Random, sizes: &Sizes) -> Vec<u64> {
     let axes = axes(sizes);
-    let mut vector: Vec<u64> = axes.iter().map(|&axis| random.below(axis)).collect();
-    while !counts(sizes.m, &vector) {
-        let input = random.index(vector.len());
-        vector[input] /= 2;
+    let mut digits: Vec<u64> = axes.iter().map(|&axis| random.below(axis)).collect();
+    while !counts(sizes.m, &digits) {
+        let input = random.index(digits.len());
+        digits[input] /= 2;
     }
-    vector
+    digits
 }
 
-/// Adds the product of the falling factorials of the degrees in `vector`. It is 0 unless every
-/// entry reaches its degree, so the first difference is at `vector` itself, where it counts.
-pub fn late(path: &Datapath, vector: &[u64]) -> Datapath {
-    multiple(path, vector, 1)
+/// Adds the product of the falling factorials of which these digits are the degrees. It is 0 unless
+/// every input is at least so far from its lowest value, so the first difference is at the vector of
+/// the digits itself, where it counts.
+pub fn late(path: &Datapath, digits: &[u64]) -> Datapath {
+    assert!(counts(path.sizes.m, digits), "no difference at {digits:?}");
+    multiple(path, digits, 1)
 }
 
-/// The same times the power of two with which only the highest of the m bits differs at `vector`;
+/// The same times the power of two with which only the highest of the m bits differs at this vector;
 /// twice as much would be 0 everywhere.
-pub fn barely(path: &Datapath, vector: &[u64]) -> Datapath {
+pub fn barely(path: &Datapath, digits: &[u64]) -> Datapath {
     let m = path.sizes.m;
-    assert!(counts(m, vector), "no difference at {vector:?}");
-    multiple(path, vector, 1 << (m - 1 - power_in_factorials(vector)))
+    assert!(counts(m, digits), "no difference at {digits:?}");
+    multiple(path, digits, 1 << (m - 1 - power_in_factorials(digits)))
 }
 
-fn multiple(path: &Datapath, vector: &[u64], factor: u64) -> Datapath {
+/// The same times twice as much, which is 0 at every full-width vector.
+pub fn nowhere(path: &Datapath, digits: &[u64]) -> Datapath {
     let m = path.sizes.m;
-    assert!(counts(m, vector), "no difference at {vector:?}");
+    let power = m - power_in_factorials(digits).min(m);
+    let factor = if power == m { 0 } else { 1 << power };
+    multiple(path, digits, factor)
+}
+
+fn multiple(path: &Datapath, digits: &[u64], factor: u64) -> Datapath {
     let mut steps = path.steps.clone();
     let last = steps.len() - 1;
     let mut product = push(&mut steps, Step::Constant(factor));
-    for (input, &k) in vector.iter().enumerate().filter(|(_, k)| **k > 0) {
-        let factor = falling(&mut steps, m, input, k);
+    for (input, &k) in digits.iter().enumerate().filter(|(_, k)| **k > 0) {
+        let factor = falling(&mut steps, &path.sizes, input, k);
         product = push(&mut steps, Step::Multiply(product, factor));
     }
     push(&mut steps, Step::Add(last, product));
@@ -237,28 +259,36 @@ mod tests {
     use super::*;
     use crate::compare::{Verdict, compare_paths};
     use crate::file::{read, write};
+    use crate::grid::{full_width, vector_of, vectors};
 
     #[test]
     fn kinds_keep_their_promises() {
         let mut random = Random::new(0x7713);
-        for round in 0..300 {
+        let mut signed = 0;
+        for round in 0..400 {
             let sizes = varied_sizes(&mut random, 1 + round % 64, 100, 10);
+            signed += u64::from(sizes.signed());
             let first = path(&mut random, &sizes);
             for kind in KINDS {
                 let second = twin(&mut random, &first, kind);
                 assert_eq!(read(&write(&second), 1).as_ref(), Ok(&second), "{kind:?}");
-                let found = compare_paths(&axes(&sizes), &first, &second);
+                let found = compare_paths(vectors(&sizes), &first, &second);
                 if kind.equivalent() {
                     assert_eq!(found.verdict, Verdict::Equivalent, "{kind:?}");
                 }
+                if sizes.bits() <= 8 {
+                    let exhaustive = compare_paths(full_width(&sizes), &first, &second);
+                    assert_eq!(exhaustive.verdict, found.verdict, "{kind:?}");
+                }
             }
-            let vector = countable(&mut random, &sizes);
-            let found = compare_paths(&axes(&sizes), &first, &late(&first, &vector));
+            let digits = countable(&mut random, &sizes);
+            let vector = vector_of(&sizes, &digits);
+            let found = compare_paths(vectors(&sizes), &first, &late(&first, &digits));
             let Verdict::Differs { vector: shown, .. } = found.verdict else {
                 panic!("no difference at {vector:?}")
             };
             assert_eq!(shown, vector);
-            let found = compare_paths(&axes(&sizes), &first, &barely(&first, &vector));
+            let found = compare_paths(vectors(&sizes), &first, &barely(&first, &digits));
             let Verdict::Differs {
                 vector: shown,
                 outputs,
@@ -268,6 +298,9 @@ mod tests {
             };
             assert_eq!(shown, vector);
             assert_eq!(outputs[0] ^ outputs[1], 1 << (sizes.m - 1));
+            let found = compare_paths(vectors(&sizes), &first, &nowhere(&first, &digits));
+            assert_eq!(found.verdict, Verdict::Equivalent, "{digits:?}");
         }
+        assert!((50..200).contains(&signed), "{signed} sizes with a mark");
     }
 }

@@ -13,7 +13,7 @@ use crate::file::{Datapath, Step};
 pub const EXACT_BITS: usize = 32_768;
 
 /// The exact value of every step at the vector, where none is longer than `EXACT_BITS`.
-pub fn exact_values(path: &Datapath, vector: &[u64]) -> Option<Vec<Big>> {
+pub fn exact_values(path: &Datapath, vector: &[i128]) -> Option<Vec<Big>> {
     let mut values: Vec<Big> = Vec::with_capacity(path.steps.len());
     for &step in &path.steps {
         let value = match step {
@@ -37,19 +37,19 @@ pub fn exact_values(path: &Datapath, vector: &[u64]) -> Option<Vec<Big>> {
 }
 
 /// The last step's exact value modulo 2^m, where the exact values can be worked out.
-pub fn exact_output(path: &Datapath, vector: &[u64]) -> Option<u64> {
+pub fn exact_output(path: &Datapath, vector: &[i128]) -> Option<u64> {
     let values = exact_values(path, vector)?;
     let cut = values.last()?.modulo_power(path.sizes.m as usize);
     Some(cut.to_u64().expect("m is at most 64"))
 }
 
 /// The output by remainders modulo 2^m, taken at every step.
-pub fn residue_output(path: &Datapath, vector: &[u64]) -> u64 {
+pub fn residue_output(path: &Datapath, vector: &[i128]) -> u64 {
     let modulus = 1u128 << path.sizes.m;
     let mut values: Vec<u128> = Vec::with_capacity(path.steps.len());
     for &step in &path.steps {
         let value = match step {
-            Step::Input(input) => u128::from(vector[input]),
+            Step::Input(input) => vector[input].rem_euclid(1 << path.sizes.m) as u128,
             Step::Constant(number) => u128::from(number),
             Step::Add(left, right) => values[left] + values[right],
             Step::Subtract(left, right) => values[left] + modulus - values[right],
@@ -67,7 +67,7 @@ pub struct Output {
 }
 
 /// The output at a full-width vector. Panics if the two evaluators disagree.
-pub fn output(path: &Datapath, vector: &[u64]) -> Output {
+pub fn output(path: &Datapath, vector: &[i128]) -> Output {
     let output = residue_output(path, vector);
     let exact = exact_output(path, vector);
     if let Some(exact) = exact {
@@ -84,9 +84,10 @@ mod tests {
     use super::*;
     use crate::expression::{Expression, x};
     use crate::file::read;
+    use crate::sizes::{SIGNED, highest, lowest};
 
-    fn at(m: u64, n: u64, expression: &Expression, point: u64) -> u64 {
-        let path = read(&expression.file(m, &[n]), 1).unwrap();
+    fn at(m: u64, width: u64, expression: &Expression, point: i128) -> u64 {
+        let path = read(&expression.file(m, &[width]), 1).unwrap();
         output(&path, &[point]).output
     }
 
@@ -97,12 +98,31 @@ mod tests {
 
     #[test]
     fn the_ends_of_the_longest_words() {
-        let top = u64::MAX;
+        let top = highest(64);
         assert_eq!(at(64, 64, &(x(1) + 1), top), 0);
         assert_eq!(at(64, 64, &x(1).power(2), top), 1);
-        assert_eq!(at(64, 64, &(0 - x(1)), 1), top);
+        assert_eq!(at(64, 64, &(0 - x(1)), 1), u64::MAX);
         assert_eq!(at(1, 64, &x(1), top), 1);
         assert_eq!(at(1, 64, &(0 - x(1)), top), 1);
+    }
+
+    /// The exact value of a signed input is the negative number itself: it fills all m bits of an
+    /// output, however short the input is.
+    #[test]
+    fn signed_inputs() {
+        assert_eq!(at(8, SIGNED + 1, &x(1), -1), 255);
+        assert_eq!(at(64, SIGNED + 1, &x(1), -1), u64::MAX);
+        assert_eq!(at(64, SIGNED + 8, &x(1), -128), u64::MAX - 127);
+        assert_eq!(at(4, SIGNED + 8, &x(1), -128), 0);
+        assert_eq!(at(16, SIGNED + 8, &x(1).power(2), -128), 16_384);
+        assert_eq!(at(16, SIGNED + 8, &(x(1) * 3 - 1), 127), 380);
+        let low = lowest(SIGNED + 64);
+        assert_eq!(at(64, SIGNED + 64, &x(1), low), 1 << 63);
+        assert_eq!(at(64, SIGNED + 64, &(0 - x(1)), low), 1 << 63);
+        assert_eq!(at(64, SIGNED + 64, &(x(1) - 1), low), (1 << 63) - 1);
+        let path = read(&x(1).power(2).file(64, &[SIGNED + 64]), 1).unwrap();
+        let values = exact_values(&path, &[low]).unwrap();
+        assert_eq!(values, [Big::from(low), Big::power_of_two(126)]);
     }
 
     #[test]

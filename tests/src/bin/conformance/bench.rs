@@ -2,6 +2,7 @@
 
 use crate::product::Product;
 use reference::calls::{self, Evaluation, GRID};
+use reference::sizes::words_of;
 use std::fmt::Debug;
 
 /// What went wrong, in words, where something did.
@@ -52,18 +53,14 @@ impl Bench {
         Ok(refusal)
     }
 
-    /// Evaluates the file and compares the answer and every scratch entry.
-    pub fn evaluate(
-        &mut self,
-        file: &[u8],
-        vector: &[u64],
-        scratch: &[u64],
-    ) -> Outcome<Evaluation> {
-        let (answer, after) = self.product.evaluate(file, vector, scratch)?;
-        let expected = calls::evaluate(file, vector, scratch);
+    /// Evaluates the file at the vector that these words give, and compares the answer and every
+    /// scratch entry.
+    pub fn evaluate(&mut self, file: &[u8], words: &[u64], scratch: &[u64]) -> Outcome<Evaluation> {
+        let (answer, after) = self.product.evaluate(file, words, scratch)?;
+        let expected = calls::evaluate(file, words, scratch);
         let call = || {
             let call = named("evaluate", file);
-            format!("{call} at {vector:?} with {} scratch words", scratch.len())
+            format!("{call} at {words:?} with {} scratch words", scratch.len())
         };
         self.same(&answer, &expected.answer, call)?;
         let wrong = first_difference(&after, &expected.scratch);
@@ -72,9 +69,9 @@ impl Bench {
     }
 
     /// The output of a sound file at a full-width vector, compared too.
-    pub fn output(&mut self, file: &[u8], vector: &[u64]) -> Outcome<u64> {
+    pub fn output(&mut self, file: &[u8], vector: &[i128]) -> Outcome<u64> {
         let scratch = vec![u64::MAX; file.len() / 9];
-        let done = self.evaluate(file, vector, &scratch)?;
+        let done = self.evaluate(file, &words_of(vector), &scratch)?;
         self.same(&done.answer[..3], &[0, 0, 0], || named("evaluate", file))?;
         Ok(done.answer[3])
     }
@@ -96,12 +93,12 @@ impl Bench {
     pub fn evaluates(
         &mut self,
         file: &[u8],
-        vector: &[u64],
+        words: &[u64],
         scratch: usize,
         expected: [u64; 3],
     ) -> Outcome {
         let scratch: Vec<u64> = (1..=scratch as u64).collect();
-        let done = self.evaluate(file, vector, &scratch)?;
+        let done = self.evaluate(file, words, &scratch)?;
         self.same(&done.answer[..3], &expected, || named("evaluate", file))
     }
 

@@ -5,10 +5,12 @@ use crate::refusals::plain;
 use reference::expression::{falling, x};
 use reference::file::{LONG_HEAD, SHORT_HEAD, SHORT_INPUTS, STEPS, length};
 use reference::pairs::{SAMPLE_A, SAMPLE_B};
-use reference::sizes::INPUTS;
+use reference::signed::SAMPLE_SIGNED;
+use reference::sizes::{INPUTS, SIGNED};
 use reference::ten_inputs::SAMPLE_NINE;
 
-/// Small files that between them hold every operation, one input and eight to ten, m 1 and 64.
+/// Small files that between them hold every operation, one input and eight to ten, signed ones too,
+/// m 1 and 64.
 fn small_files() -> Vec<Vec<u8>> {
     vec![
         SAMPLE_A.to_vec(),
@@ -18,14 +20,29 @@ fn small_files() -> Vec<Vec<u8>> {
         (x(8) * 5 - x(1)).file(64, &[1, 64, 2, 63, 3, 62, 4, 61]),
         SAMPLE_NINE.to_vec(),
         (x(10) * 5 - x(9)).file(64, &[1, 64, 2, 63, 3, 62, 4, 61, 5, 60]),
+        SAMPLE_SIGNED.to_vec(),
+        (falling(x(1), 2) + 3).file(8, &[SIGNED + 1]),
+        (x(10) * 5 - x(9)).file(
+            64,
+            &[129, 192, 2, 63, 131, 62, 4, 61, SIGNED + 64, SIGNED + 1],
+        ),
     ]
 }
 
-/// All calls, with a vector and a scratch slice that a sound file of these sizes takes.
+/// Whether a width has the mark of a signed input.
+fn marked(file: &[u8]) -> bool {
+    file.iter().take(LONG_HEAD).skip(4).any(|&byte| byte >= 128)
+}
+
+/// All calls, with a vector and a scratch slice that a sound file of these sizes takes: where inputs
+/// are signed, also with that of −1 in each.
 fn compare(bench: &mut Bench, file: &[u8], inputs: usize) -> Outcome {
     bench.file_calls(file)?;
     bench.evaluate(file, &vec![1; inputs], &[u64::MAX; 20])?;
     bench.evaluate(file, &vec![0; inputs], &[3; 4])?;
+    if marked(file) {
+        bench.evaluate(file, &vec![u64::MAX; inputs], &[u64::MAX; 20])?;
+    }
     Ok(())
 }
 

@@ -1,7 +1,7 @@
 //! A small sound file and the faults that it can have, in the order in which they are judged.
 
 use reference::file::{Datapath, LONG_HEAD, SHORT_HEAD, Step, head, write};
-use reference::sizes::{INPUTS, Sizes};
+use reference::sizes::{INPUTS, SIGNED, Sizes};
 
 /// The count of steps of a sound file.
 pub const STEPS: usize = 5;
@@ -9,14 +9,32 @@ pub const STEPS: usize = 5;
 /// m of a sound file.
 pub const M: u64 = 8;
 
-/// The word lengths of a sound file of two inputs, whose grid is 10 by 8, and of those of eight, nine
-/// and ten, on whose grids each input takes two values. Nine and ten have the long head.
+/// The widths of a sound file of two inputs, whose grid is 10 by 8, and of those of eight, nine and
+/// ten, on whose grids each input takes two values. Nine and ten have the long head.
 pub const WIDTHS: [u64; 2] = [8, 3];
 pub const MANY_WIDTHS: [&[u64]; 3] = [&[1; 8], &[1; 9], &[1; 10]];
 
-/// The word lengths of all sound files.
+/// Widths with the same grids, whose first input is signed; faults of the widths of such files are
+/// of their marks.
+pub const SIGNED_WIDTHS: [&[u64]; 2] = [
+    &[SIGNED + 8, SIGNED + 3],
+    &[SIGNED + 1, 1, SIGNED + 1, 1, 1, 1, 1, 1, 1, SIGNED + 1],
+];
+
+/// The widths of all sound files.
 pub fn all_widths() -> impl Iterator<Item = &'static [u64]> {
-    [&WIDTHS[..]].into_iter().chain(MANY_WIDTHS)
+    let unsigned = [&WIDTHS[..]].into_iter().chain(MANY_WIDTHS);
+    unsigned.chain(SIGNED_WIDTHS)
+}
+
+/// G of a sound file with these widths.
+#[cfg(any(feature = "tables", feature = "sessions"))]
+pub fn grid_size(widths: &[u64]) -> u64 {
+    if widths.len() == 2 {
+        80
+    } else {
+        1 << widths.len()
+    }
 }
 
 /// The sizes of a sound file.
@@ -85,7 +103,12 @@ const FILE_FAULTS: [FileFault; 15] = [
     fault(5, 0, |file| {
         let last = head_of(file) - 1;
         let used = last == 3 + usize::from(file[1]);
-        file[last] = if used { 65 } else { 1 };
+        file[last] = match (u64::from(file[4]) < SIGNED, used) {
+            (true, true) => 65,
+            (true, false) => 1,
+            (false, true) => 193,
+            (false, false) => 128,
+        };
     }),
     fault(6, 0, |file| {
         file.pop();
@@ -100,7 +123,7 @@ const FILE_FAULTS: [FileFault; 15] = [
     fault(8, 4, |file| argument(file, 4)),
 ];
 
-/// The faults of a sound file with these word lengths.
+/// The faults of a sound file with these widths.
 pub fn file_faults(widths: &[u64]) -> impl Iterator<Item = &'static FileFault> + use<> {
     let long = head(widths.len()) == LONG_HEAD;
     FILE_FAULTS.iter().filter(move |fault| long || !fault.long)

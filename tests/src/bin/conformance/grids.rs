@@ -8,7 +8,8 @@ use reference::file::SHORT_INPUTS;
 use reference::pairs::{BOUNDS, FIGURES, SAMPLE_A};
 use reference::random::Random;
 use reference::samples;
-use reference::sizes::INPUTS;
+use reference::signed::all_marked;
+use reference::sizes::{INPUTS, SIGNED};
 
 pub const SEED: u64 = 0x9a1d_5eed;
 
@@ -45,7 +46,13 @@ pub fn bounds(bench: &mut Bench) -> Outcome {
 const NINTH_POWER: u64 = 23_762_680_013_799_936;
 
 /// m, word lengths and G: the largest grids, their neighbours, and those of fewer inputs.
-const LARGEST: [(u64, &[u64], u64); 9] = [
+const LARGEST: [(u64, &[u64], u64); 11] = [
+    (64, &[SIGNED + 64; 10], 66 * NINTH_POWER),
+    (
+        64,
+        &[SIGNED + 1, 135, 7, 7, 7, 7, 7, 7, 7, 192],
+        2 * NINTH_POWER,
+    ),
     (64, &[7; 10], 66 * NINTH_POWER),
     (64, &[64; 10], 66 * NINTH_POWER),
     (64, &[64, 7, 7, 7, 7, 7, 7, 7, 7, 6], 64 * NINTH_POWER),
@@ -57,19 +64,29 @@ const LARGEST: [(u64, &[u64], u64); 9] = [
     (1, &[64; 10], 1 << 10),
 ];
 
-/// One input of every n at every m; eight to ten inputs alike; random sizes; the largest grids; the
-/// grids of the papers.
+/// One input of every n at every m; eight to ten inputs alike; the same of signed ones; random sizes;
+/// the largest grids; the grids of the papers.
 pub fn grids(bench: &mut Bench) -> Outcome {
     for m in 1..=64 {
         for n in 1..=64 {
             bench.grid(&plain(m, &[n], 1))?;
             for d in SHORT_INPUTS..=INPUTS {
-                bench.grid(&plain(m, &vec![n; d], 1))?;
+                let found = bench.grid(&plain(m, &vec![n; d], 1))?;
+                let signed = bench.grid(&plain(m, &vec![SIGNED + n; d], 1))?;
+                bench.same(&signed, &found, || {
+                    format!("the grid of m {m}, {d} signed inputs of {n} bits")
+                })?;
             }
+            let signed = bench.grid(&plain(m, &[SIGNED + n], 1))?;
+            let [least, count] = [u128::from(bench.bound(m)?[3]), 1 << n];
+            let axis = least.min(count) as u64;
+            bench.same(&signed, &answer(&[axis], axis), || {
+                format!("the grid of m {m}, a signed input of {n} bits")
+            })?;
         }
     }
     let mut random = Random::new(SEED);
-    for index in 0..10_000 {
+    for index in 0..14_000 {
         let sizes = samples::sizes(&mut random, 1 + index % 64);
         bench.grid(&plain(sizes.m, &sizes.widths, 1))?;
     }
@@ -85,9 +102,11 @@ pub fn grids(bench: &mut Bench) -> Outcome {
     })?;
     for (m, widths, axis) in GRIDS {
         let d = widths.len();
-        let found = bench.grid(&plain(m, widths, 1))?;
         let expected = answer(&vec![axis; d], axis.pow(d as u32));
-        bench.same(&found, &expected, || format!("grid of m {m}, n {widths:?}"))?;
+        for widths in [widths.to_vec(), all_marked(widths)] {
+            let found = bench.grid(&plain(m, &widths, 1))?;
+            bench.same(&found, &expected, || format!("grid of m {m}, n {widths:?}"))?;
+        }
     }
     Ok(())
 }

@@ -14,7 +14,7 @@
 //! | `damage` | files cut, lengthened, and changed byte by byte |
 //! | `soak` | random files |
 //! | `grids` | bounds and grids of all sizes |
-//! | `replay` | the pairs and examples of the documents, and the pairs of ten inputs |
+//! | `replay` | the pairs and examples of the documents, and pairs of ten and of signed inputs |
 //! | `tables` | difference tables and sums; only with the feature of this name |
 //! | `sessions` | opening and continuing; only with the feature of this name |
 //! | `program` | the comparing program; only where CORKBINGO_COMPARE names it |
@@ -43,15 +43,22 @@ use std::sync::Mutex;
 /// A group of tests: its name, its seed if it draws numbers, and what it runs.
 type Group = (&'static str, Option<u64>, fn(&mut Bench) -> Outcome);
 
-const FILES: [Group; 17] = [
+const FILES: [Group; 21] = [
     ("head refused", None, refusals::head),
     ("heads of nine and ten inputs", None, refusals::long_heads),
+    ("widths refused", None, refusals::widths),
     ("lengths refused", None, refusals::lengths),
     ("operations refused", None, refusals::operations),
     ("arguments refused", None, refusals::arguments),
     ("limits accepted", None, refusals::limits),
     ("scratch refused", None, refusals::scratch),
     ("vectors refused", None, refusals::vectors),
+    ("words of signed inputs", None, refusals::signed_vectors),
+    (
+        "words of inputs signed and not",
+        None,
+        refusals::mixed_vectors,
+    ),
     ("precedence of refusals", None, precedence::evaluate),
     ("truncated and lengthened files", None, damage::lengths),
     ("damaged bytes", None, damage::bytes),
@@ -62,7 +69,12 @@ const FILES: [Group; 17] = [
         None,
         replay::pairs,
     ),
-    ("outputs of document 002", None, replay::outputs),
+    ("pairs of signed inputs", None, replay::signed_pairs),
+    (
+        "outputs of document 002 and of signed inputs",
+        None,
+        replay::outputs,
+    ),
     (
         "equivalences of document 002",
         Some(replay::SEED),

@@ -1,11 +1,13 @@
 //! Which refusal is given where several conditions hold: every set of sixteen faults at once, and of
-//! those in the head and at the first and last step where the file has eight inputs or more.
+//! those in the head and at the first and last step where the file has eight inputs or more, or
+//! signed ones.
 
 use crate::bench::{Bench, Outcome};
 use crate::faults::{
-    Fault, FileFault, MANY_WIDTHS, STEPS, WIDTHS, at_the_ends, of_file, sound_file, subsets,
+    Fault, FileFault, MANY_WIDTHS, SIGNED_WIDTHS, STEPS, WIDTHS, at_the_ends, of_file, sound_file,
+    sound_sizes, subsets,
 };
-use reference::samples::top;
+use reference::sizes::words_of;
 
 /// What a call of evaluate is given.
 struct Call {
@@ -17,7 +19,7 @@ struct Call {
 fn sound(widths: &[u64]) -> Call {
     Call {
         file: sound_file(widths),
-        vector: widths.iter().map(|&n| top(n)).collect(),
+        vector: words_of(&sound_sizes(widths).highest()),
         scratch: STEPS,
     }
 }
@@ -31,7 +33,7 @@ fn faults(widths: &[u64], chosen: fn(&FileFault) -> bool) -> Vec<Fault<Call>> {
 
 pub fn evaluate(bench: &mut Bench) -> Outcome {
     every(bench, &WIDTHS, |_| true)?;
-    for widths in MANY_WIDTHS {
+    for widths in MANY_WIDTHS.into_iter().chain(SIGNED_WIDTHS) {
         every(bench, widths, at_the_ends)?;
     }
     Ok(())

@@ -15,7 +15,8 @@ use reference::expression::{Expression, falling, x};
 use reference::file::{SHORT_INPUTS, STEPS, length};
 use reference::pairs::{self, SAMPLE_A, SAMPLE_B};
 use reference::report::report;
-use reference::sizes::INPUTS;
+use reference::signed::{self, SAMPLE_SIGNED, ZERO_SIGNED, marked_file};
+use reference::sizes::{INPUTS, SIGNED};
 use reference::ten_inputs;
 use std::env;
 use std::fs;
@@ -34,6 +35,9 @@ const LIMIT: Duration = Duration::from_secs(60);
 
 /// What document 01 prints for its sample files.
 const SAMPLE_LINES: &str = "grid 2 4 = 8\ndiffer 1 1 : 1 0\nrun 6\n";
+
+/// What is printed for the sample files of a signed input.
+const SIGNED_LINES: &str = "grid 10 8 = 80\ndiffer -128 1 : 128 0\nrun 2\n";
 
 pub fn groups() -> Vec<Group> {
     if env::var_os(NAME).is_none() {
@@ -173,7 +177,8 @@ fn agrees(bench: &mut Bench, folder: &Folder, files: [&[u8]; 2]) -> Outcome {
     prints(bench, folder, files, &report(files))
 }
 
-/// Document 01's lines; all pairs of both documents and of ten inputs; other names and folders.
+/// Document 01's lines; all pairs of both documents, of ten inputs and of signed ones; other names and
+/// folders.
 fn compared(bench: &mut Bench) -> Outcome {
     let folder = Folder::new("pairs")?;
     prints(bench, &folder, [&SAMPLE_A, &SAMPLE_B], SAMPLE_LINES)?;
@@ -181,7 +186,12 @@ fn compared(bench: &mut Bench) -> Outcome {
     prints(bench, &folder, [&SAMPLE_B, &SAMPLE_A], swapped)?;
     let same = "grid 2 4 = 8\nequivalent\nrun 8\n";
     prints(bench, &folder, [&SAMPLE_A, &SAMPLE_A], same)?;
-    let named = [pairs::pairs(), ten_inputs::pairs(), examples::pairs()];
+    let named = [
+        pairs::pairs(),
+        ten_inputs::pairs(),
+        signed::pairs(),
+        examples::pairs(),
+    ];
     for pair in named.iter().flatten() {
         agrees(bench, &folder, pair.files.each_ref().map(Vec::as_slice))?;
     }
@@ -189,6 +199,7 @@ fn compared(bench: &mut Bench) -> Outcome {
     let wide = (x(1) - 1).file(64, &[64]);
     let lines = format!("grid 66 = 66\ndiffer 0 : {top} 0\nrun 1\n");
     prints(bench, &folder, [&wide, &x(1).file(64, &[64])], &lines)?;
+    signs(bench, &folder)?;
     for (d, count) in [
         (SHORT_INPUTS, 256),
         (SHORT_INPUTS + 1, 512),
@@ -218,6 +229,50 @@ fn compared(bench: &mut Bench) -> Outcome {
     Ok(())
 }
 
+/// A minus sign before negative values of signed inputs, and nowhere else.
+fn signs(bench: &mut Bench, folder: &Folder) -> Outcome {
+    let low = "-9223372036854775808";
+    let wide = format!("grid 66 66 = 4356\ndiffer {low} 0 : 9223372036854775808 0\nrun 1\n");
+    let ten = format!(
+        "grid {}= 1568336880910795776\ndiffer {}: 5 4\nrun 1\n",
+        "66 ".repeat(INPUTS),
+        format!("{low} ").repeat(INPUTS)
+    );
+    let list: [(u64, &[u64], [Expression; 2], &str); 6] = [
+        (
+            8,
+            &[SIGNED + 8],
+            [5.into(), 4.into()],
+            "grid 10 = 10\ndiffer -128 : 5 4\nrun 1\n",
+        ),
+        (
+            8,
+            &[8],
+            [5.into(), 4.into()],
+            "grid 10 = 10\ndiffer 0 : 5 4\nrun 1\n",
+        ),
+        (
+            8,
+            &[1, SIGNED + 1, 2, SIGNED + 2],
+            [x(1) * x(4), 0.into()],
+            "grid 2 2 4 4 = 64\ndiffer 1 -1 0 -2 : 254 0\nrun 33\n",
+        ),
+        (
+            4,
+            &[SIGNED + 3],
+            [falling(x(1) + 4, 4), 0.into()],
+            "grid 6 = 6\ndiffer 0 : 8 0\nrun 5\n",
+        ),
+        (64, &[SIGNED + 64, 64], [x(1), 0.into()], &wide),
+        (64, &[SIGNED + 64; INPUTS], [5.into(), 4.into()], &ten),
+    ];
+    for (m, widths, sides, lines) in list {
+        let files = sides.map(|side| side.file(m, widths));
+        prints(bench, folder, files.each_ref().map(Vec::as_slice), lines)?;
+    }
+    Ok(())
+}
+
 /// Every number, in either file, with either head; files of the greatest length and past it.
 fn refused(bench: &mut Bench) -> Outcome {
     let folder = Folder::new("refusals")?;
@@ -236,6 +291,10 @@ fn refused(bench: &mut Bench) -> Outcome {
         prints(bench, &folder, [&sound, &[]], "refused 1 2 0\n")?;
     }
     prints(bench, &folder, [&[], &[]], "refused 1 1 0\n")?;
+    // the two differ in the marks of their inputs alone
+    let marked = marked_file(&SAMPLE_B);
+    prints(bench, &folder, [&SAMPLE_A, &marked], "refused 9 0 0\n")?;
+    prints(bench, &folder, [&marked, &SAMPLE_A], "refused 9 0 0\n")?;
     for (d, extras) in [
         (1, &[1, 2, 3, 9, 3_000, 60_000, 2_000_000][..]),
         (INPUTS, &[1, 9]),
@@ -282,7 +341,17 @@ fn unreadable(bench: &mut Bench) -> Outcome {
     let again = run([&sound, &sound])?;
     bench.same(again.as_str(), "grid 2 4 = 8\nequivalent\nrun 8\n", || {
         String::from("a sound file after unreadable ones")
-    })
+    })?;
+    let signed = folder.write("signed.dp", &SAMPLE_SIGNED)?;
+    let zero = folder.write("zero.dp", &ZERO_SIGNED)?;
+    for (names, lines) in [
+        ([&signed, &zero], SIGNED_LINES),
+        ([&signed, &missing], "refused 1 2 0\n"),
+    ] {
+        let found = run(names.map(PathBuf::as_path))?;
+        bench.same(found.as_str(), lines, || format!("{names:?}"))?;
+    }
+    Ok(())
 }
 
 /// The program as run by a user who may not read everything: nobody in the place of root.
@@ -318,9 +387,12 @@ fn forbidden(bench: &mut Bench) -> Outcome {
         &shut,
         fs::Permissions::from_mode(0o000),
     ))?;
+    let signed = folder.write("signed.dp", &SAMPLE_SIGNED)?;
+    let zero = folder.write("zero.dp", &ZERO_SIGNED)?;
     for (names, line) in [
         ([&shut, &sound], "refused 1 1 0\n"),
         ([&sound, &shut], "refused 1 2 0\n"),
+        ([&signed, &zero], SIGNED_LINES),
     ] {
         let found = printed(command()?.args(names))?;
         bench.same(found.as_str(), line, || format!("{names:?}"))?;
@@ -340,13 +412,14 @@ fn several_calls(bench: &mut Bench) -> Outcome {
     let more = "grid 18 18 18 18 18 = 1889568\nequivalent\nrun 1889568\n";
     let sides = [x(1) * x(5) + x(2), x(2) + x(5) * x(1)];
     pair(16, &[16; 5], sides, more)?;
-    // Falling factorials whose product first counts at the vector of their degrees: places 999,999
-    // and 1,000,000 of the 1,048,576 of ten inputs of 2 bits.
-    for (degrees, run) in [
-        ([3, 3, 1, 0, 0, 2, 0, 3, 3, 3], 1_000_000),
-        ([3, 3, 1, 0, 0, 2, 1, 0, 0, 0], 1_000_001),
+    // Falling factorials whose product first counts at the vector of their degrees, counted from the
+    // lowest value: places 999,999 and 1,000,000 of the 1,048,576 of ten inputs of 2 bits.
+    for (degrees, run, width, least) in [
+        ([3, 3, 1, 0, 0, 2, 0, 3, 3, 3], 1_000_000, 2, 0),
+        ([3, 3, 1, 0, 0, 2, 1, 0, 0, 0], 1_000_001, 2, 0),
+        ([3, 3, 1, 0, 0, 2, 1, 0, 0, 0], 1_000_001, SIGNED + 2, -2),
     ] {
-        let factor = |(index, &k): (usize, &i32)| falling(x(index + 1), k);
+        let factor = |(index, &k): (usize, &i32)| falling(x(index + 1) - least, k);
         let factors = degrees.iter().enumerate().filter(|(_, k)| **k > 0);
         let product = factors.map(factor).reduce(|left, right| left * right);
         let product = product.ok_or("no degrees")?;
@@ -354,10 +427,10 @@ fn several_calls(bench: &mut Bench) -> Outcome {
             .map(|k| (1..=k as u64).product::<u64>())
             .iter()
             .product();
-        let vector = degrees.map(|k| k.to_string()).join(" ");
+        let vector = degrees.map(|k| (least + k).to_string()).join(" ");
         let grid = "grid 4 4 4 4 4 4 4 4 4 4 = 1048576";
         let lines = format!("{grid}\ndiffer {vector} : {factorials} 0\nrun {run}\n");
-        pair(64, &[2; 10], [product, 0.into()], &lines)?;
+        pair(64, &[width; 10], [product, 0.into()], &lines)?;
     }
     Ok(())
 }
@@ -369,9 +442,18 @@ fn status(bench: &mut Bench) -> Outcome {
     let first = folder.write("a.dp", &SAMPLE_A)?;
     let second = folder.write("b.dp", &SAMPLE_B)?;
     let missing = folder.0.join("missing.dp");
+    let signed = folder.write("signed.dp", &SAMPLE_SIGNED)?;
+    let zero = folder.write("zero.dp", &ZERO_SIGNED)?;
     for (names, lines, status) in [
         ([&first, &first], "grid 2 4 = 8\nequivalent\nrun 8\n", 0),
         ([&first, &second], SAMPLE_LINES, 1),
+        (
+            [&signed, &signed],
+            "grid 10 8 = 80\nequivalent\nrun 80\n",
+            0,
+        ),
+        ([&signed, &zero], SIGNED_LINES, 1),
+        ([&signed, &second], "refused 9 0 0\n", 2),
         ([&first, &missing], "refused 1 2 0\n", 2),
     ] {
         let run = told(Command::new(program()?).args(names))?;
@@ -416,6 +498,14 @@ fn arguments(bench: &mut Bench) -> Outcome {
             format!("{count} arguments")
         })?;
     }
+    folder.write("signed.dp", &SAMPLE_SIGNED)?;
+    folder.write("zero.dp", &ZERO_SIGNED)?;
+    let mut command = Command::new(linked()?);
+    let command = command.args(["signed.dp", "zero.dp"]);
+    let run = told(command.current_dir(&folder.0))?;
+    bench.same(&run.lines.as_str(), &SIGNED_LINES, || {
+        String::from("files of a signed input")
+    })?;
     // The longest path has 4,095 bytes; slashes fill a name up.
     let filled = |length: usize| format!(".{}b.dp", "/".repeat(length - 5));
     let no_name = ("refused 1 2 0\n", "file name: empty or too long\n");
@@ -449,6 +539,8 @@ fn reads(bench: &mut Bench) -> Outcome {
     })?;
     folder.write("first.dp", &SAMPLE_A)?;
     folder.write("second.dp", &SAMPLE_B)?;
+    folder.write("signed.dp", &SAMPLE_SIGNED)?;
+    folder.write("zero.dp", &ZERO_SIGNED)?;
     // The largest files with the short head and with the long one, and files one byte longer.
     for (name, longer_name, widths) in [
         ("largest.dp", "longer.dp", &[8; 1][..]),
@@ -473,6 +565,7 @@ fn reads(bench: &mut Bench) -> Outcome {
     for most in ["1", "7", "4096", "9228", "9230"] {
         for (names, lines) in [
             (samples, SAMPLE_LINES),
+            (["signed.dp", "zero.dp"], SIGNED_LINES),
             (["largest.dp", "largest.dp"], all),
             (["longer.dp", "largest.dp"], "refused 6 1 0\n"),
             (["largest.dp", "longer.dp"], "refused 6 2 0\n"),

@@ -5,12 +5,12 @@ use crate::bench::{Bench, Outcome};
 use reference::file::{Datapath, SHORT_HEAD, STEPS, read};
 use reference::random::Random;
 use reference::samples::{self, Shape, top};
-use reference::sizes::{INPUTS, Sizes};
+use reference::sizes::{INPUTS, Sizes, is_signed, word_length, words_of};
 use std::collections::BTreeMap;
 
 pub const SEED: u64 = 0xc02b_1960_5eed;
 
-const FILES: u64 = 100_000;
+const FILES: u64 = 135_000;
 
 /// What has occurred; `judge` asks that everything did, and often enough.
 #[derive(Default)]
@@ -19,6 +19,9 @@ struct Seen {
     accepted_m: BTreeMap<u64, u64>,
     accepted_d: BTreeMap<usize, u64>,
     accepted_steps: BTreeMap<usize, u64>,
+    /// Accepted files without a signed input, and signed inputs of accepted files by word length.
+    unsigned: u64,
+    signed: BTreeMap<u64, u64>,
     /// Answers of check and of evaluate, by number.
     checked: BTreeMap<u64, u64>,
     evaluated: BTreeMap<u64, u64>,
@@ -77,18 +80,34 @@ fn file(random: &mut Random, m: u64) -> Vec<u8> {
     file
 }
 
-/// Full-width vectors, with both ends of every range, and vectors that 14 refuses.
+/// The words of full-width vectors, with both ends of every range, and words that 14 refuses: one
+/// past an end of the range, and in an unsigned input negative ones.
 fn vectors(random: &mut Random, sizes: &Sizes) -> Vec<Vec<u64>> {
     let d = sizes.d();
-    let tops: Vec<u64> = sizes.widths.iter().map(|&n| top(n)).collect();
-    let mut list = vec![vec![0; d], tops.clone()];
-    list.extend((0..3).map(|_| samples::vector(random, sizes)));
+    let (lows, tops) = (words_of(&sizes.lowest()), words_of(&sizes.highest()));
+    let mut list = vec![lows.clone(), tops.clone()];
+    list.extend((0..3).map(|_| words_of(&samples::vector(random, sizes))));
     let any = random.index(d);
     let input = random.pick(&[0, d - 1, any]);
-    if sizes.widths[input] < 64 {
+    let width = sizes.widths[input];
+    if word_length(width) < 64 {
         let mut past = tops;
         past[input] += 1;
         list.push(past);
+        if is_signed(width) {
+            let mut before = lows;
+            before[input] -= 1;
+            // the bits of the value −1 in a word that is not extended
+            let pattern = top(word_length(width));
+            list.push(before.clone());
+            before[input] = pattern;
+            list.push(before);
+        }
+    }
+    if !is_signed(width) && random.chance(15) {
+        let mut negative = vec![0; d];
+        negative[input] = u64::MAX - random.below(3);
+        list.push(negative);
     }
     let length = random.pick(&[0, d - 1, d + 1, INPUTS + 1, 20]);
     list.push(vec![0; length]);
@@ -116,6 +135,10 @@ fn accepted(
     *seen.accepted_m.entry(path.sizes.m).or_default() += 1;
     *seen.accepted_d.entry(path.sizes.d()).or_default() += 1;
     *seen.accepted_steps.entry(count).or_default() += 1;
+    seen.unsigned += u64::from(!path.sizes.signed());
+    for &width in path.sizes.widths.iter().filter(|&&width| is_signed(width)) {
+        *seen.signed.entry(word_length(width)).or_default() += 1;
+    }
     let mut list = vectors(random, &path.sizes);
     while count > 200 && list.len() > 3 {
         let index = random.index(list.len());
@@ -157,6 +180,11 @@ impl Seen {
         for count in [1, 2, STEPS] {
             let what = format!("accepted files, {count} steps");
             often(&what, self.accepted_steps.get(&count), 500)?;
+        }
+        often("unsigned files", Some(&self.unsigned), FILES * 4 / 9)?;
+        for n in 1..=64 {
+            let what = format!("signed inputs of {n} bits");
+            often(&what, self.signed.get(&n), 300)?;
         }
         for number in 0..=8 {
             let what = format!("answers {number} of check");

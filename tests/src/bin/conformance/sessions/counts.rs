@@ -9,7 +9,7 @@ use reference::grid::{axes, size};
 use reference::mixed::{self, padded};
 use reference::random::Random;
 use reference::sessions::{DIFFERS, REFUSED, SPENT, Survey, larger};
-use reference::sizes::Sizes;
+use reference::sizes::{SIGNED, Sizes};
 use reference::twins::{Kind, barely, countable, twin};
 
 pub const COUNTS_SEED: u64 = 0xc0a7_75e5_eed0;
@@ -77,6 +77,17 @@ fn used(random: &mut Random, d: usize) -> Vec<usize> {
     }
 }
 
+/// The same sizes with some inputs signed, and one at least.
+fn signed(random: &mut Random, mut sizes: Sizes) -> Sizes {
+    let one = random.index(sizes.d());
+    for (input, width) in sizes.widths.iter_mut().enumerate() {
+        if input == one || random.chance(50) {
+            *width += SIGNED;
+        }
+    }
+    sizes
+}
+
 /// A pair of these counts of steps: equivalent, first differing by one bit at some vector where
 /// there is room for it, or with a changed step. The further steps may have other inputs.
 fn pair(random: &mut Random, sizes: &Sizes, counts: [usize; 2]) -> [Datapath; 2] {
@@ -87,8 +98,8 @@ fn pair(random: &mut Random, sizes: &Sizes, counts: [usize; 2]) -> [Datapath; 2]
     let path = mixed::path(random, sizes, count, &used);
     let mut paths = [path.clone(), path.clone()];
     let index = random.index(2);
-    let vector = countable(random, sizes);
-    let late = barely(&path, &vector);
+    let digits = countable(random, sizes);
+    let late = barely(&path, &digits);
     match random.below(4) {
         0 => {}
         1 => paths[index] = twin(random, &path, Kind::Changed),
@@ -109,9 +120,9 @@ fn hidden(random: &mut Random, sizes: &Sizes, counts: [usize; 2]) -> [Datapath; 
     let before: Vec<usize> = (0..last).collect();
     let count = random.between(1, 8) as usize;
     let path = mixed::path(random, sizes, count, &before);
-    let mut vector = countable(random, sizes);
-    vector[last] = vector[last].max(1);
-    let mut paths = [barely(&path, &vector), path];
+    let mut digits = countable(random, sizes);
+    digits[last] = digits[last].max(1);
+    let mut paths = [barely(&path, &digits), path];
     if random.chance(50) {
         paths.swap(0, 1);
     }
@@ -156,9 +167,15 @@ pub fn counts(bench: &mut Bench) -> Outcome {
                     continue;
                 }
                 let most = WORK / (first + second) as u64;
-                let sizes = sizes(&mut random, m, &WIDTHS, most);
-                let survey = Survey::new(pair(&mut random, &sizes, [first, second]));
+                let chosen = sizes(&mut random, m, &WIDTHS, most);
+                let survey = Survey::new(pair(&mut random, &chosen, [first, second]));
                 calls(bench, &mut random, &mut runs, &survey)?;
+                if (index + row + column) % 4 == 0 {
+                    let chosen = sizes(&mut random, m, &WIDTHS, most);
+                    let chosen = signed(&mut random, chosen);
+                    let survey = Survey::new(pair(&mut random, &chosen, [first, second]));
+                    calls(bench, &mut random, &mut runs, &survey)?;
+                }
             }
         }
     }
@@ -175,11 +192,17 @@ pub fn lines(bench: &mut Bench) -> Outcome {
                     continue;
                 }
                 let most = LINES_WORK / (first + second) as u64;
-                let sizes = sizes(&mut random, m, &LINES, most);
-                let survey = Survey::new(hidden(&mut random, &sizes, [first, second]));
-                calls(bench, &mut random, &mut runs, &survey)?;
-                let scratch = scratch(first.max(second));
-                runs.finish(bench, &survey, 0, || u64::MAX, &scratch)?;
+                let mut list = vec![sizes(&mut random, m, &LINES, most)];
+                if (row + column) % 4 == 0 {
+                    let further = sizes(&mut random, m, &LINES, most);
+                    list.push(signed(&mut random, further));
+                }
+                for chosen in list {
+                    let survey = Survey::new(hidden(&mut random, &chosen, [first, second]));
+                    calls(bench, &mut random, &mut runs, &survey)?;
+                    let scratch = scratch(first.max(second));
+                    runs.finish(bench, &survey, 0, || u64::MAX, &scratch)?;
+                }
             }
         }
     }
@@ -206,14 +229,14 @@ fn calls(bench: &mut Bench, random: &mut Random, runs: &mut Runs, survey: &Surve
 pub fn scratches(bench: &mut Bench) -> Outcome {
     let mut random = Random::new(SCRATCH_SEED);
     let mut runs = Runs::default();
-    for (m, d) in [(8, 8), (32, 9), (33, 10)] {
+    for (m, d, mark) in [(8, 8, 0), (32, 9, 0), (33, 10, 0), (16, 9, SIGNED)] {
         for first in COUNTS {
             for second in COUNTS {
                 if first + second > 300 && first != second && first.min(second) != 64 {
                     continue;
                 }
                 let d = if first + second > 130 { 6 } else { d };
-                let widths = vec![1; d];
+                let widths = vec![mark + 1; d];
                 let sizes = Sizes { m, widths };
                 let survey = Survey::new(pair(&mut random, &sizes, [first, second]));
                 longer(bench, &mut runs, &survey)?;

@@ -6,11 +6,11 @@ use super::bench::scratch;
 use super::runs::{ACCEPTED, LANES, Runs, WAYS, Way, line};
 use crate::bench::{Bench, Outcome};
 use reference::file::Datapath;
-use reference::grid::{axes, place_of, size, vector_at};
+use reference::grid::{axes, digits_at, place_of, size, vector_of};
 use reference::mixed;
 use reference::random::Random;
 use reference::sessions::{DIFFERS, EQUIVALENT, KIND, MARK, POSITION, RUN, SPENT, Survey, larger};
-use reference::sizes::Sizes;
+use reference::sizes::{SIGNED, Sizes};
 use reference::spots::{alone, spots};
 use reference::twins::{barely, countable, counts};
 
@@ -20,9 +20,15 @@ pub const SEVERAL_SEED: u64 = 0xd1ff_e2e4_5eef;
 
 const STEPS: usize = 5;
 
-/// m and word lengths of the grids on which each place is the first difference of a pair; of the
+/// m and widths of the grids on which each place is the first difference of a pair; of the
 /// largest, places so far apart, and the last.
-const GRIDS: [(u64, &[u64], usize); 12] = [
+const GRIDS: [(u64, &[u64], usize); 18] = [
+    (33, &[SIGNED + 5], 1),
+    (8, &[SIGNED + 1; 10], 53),
+    (64, &[SIGNED + 64, 1], 3),
+    (16, &[SIGNED + 2, 2, SIGNED + 2, 2], 5),
+    (4, &[4, SIGNED + 4, SIGNED + 4], 5),
+    (16, &[1, 1, SIGNED + 1, 1, 1, SIGNED + 16], 5),
     (33, &[5], 1),
     (1, &[1; 8], 1),
     (1, &[1; 9], 27),
@@ -38,7 +44,10 @@ const GRIDS: [(u64, &[u64], usize); 12] = [
 ];
 
 /// Large grids, of which the lines before a difference are run.
-const LARGE: [(u64, &[u64]); 8] = [
+const LARGE: [(u64, &[u64]); 11] = [
+    (64, &[SIGNED + 64; 10]),
+    (63, &[64, SIGNED + 7, SIGNED + 63, 3, SIGNED + 64, 2]),
+    (16, &[16, 16, 16, SIGNED + 16, 16, 16, 16, 16, SIGNED + 8]),
     (64, &[64; 10]),
     (64, &[64, 64, 64, 64, 64, 64, 64, 64, 1]),
     (63, &[64, 7, 64, 3, 64, 2]),
@@ -55,7 +64,10 @@ const PAIRS: usize = 6;
 
 /// Grids on which a pair can differ at any places and no others, and of how many pairs of lanes one
 /// is chosen.
-const SPOTTED: [(u64, &[u64], u64); 9] = [
+const SPOTTED: [(u64, &[u64], u64); 12] = [
+    (1, &[SIGNED + 1; 9], 8),
+    (32, &[2, SIGNED + 2, 2, SIGNED + 2], 4),
+    (8, &[1, 1, SIGNED + 1, 1, 1, SIGNED + 8], 4),
     (1, &[1; 7], 1),
     (1, &[1; 8], 8),
     (1, &[1; 9], 8),
@@ -98,11 +110,11 @@ pub fn places(bench: &mut Bench) -> Outcome {
         let last = size(&axes) - 1;
         for place in (0..last).step_by(apart).chain([last]) {
             let path = base(&mut random, &sizes);
-            let vector = vector_at(&axes, place).expect("a place below G");
-            let other = match (alone(&sizes, &vector), counts(m, &vector)) {
-                (true, true) if place % 3 == 1 => barely(&path, &vector),
-                (true, _) => spots(&path, &[vector]),
-                (false, true) => barely(&path, &vector),
+            let digits = digits_at(&axes, place).expect("a place below G");
+            let other = match (alone(&sizes, &digits), counts(m, &digits)) {
+                (true, true) if place % 3 == 1 => barely(&path, &digits),
+                (true, _) => spots(&path, &[digits]),
+                (false, true) => barely(&path, &digits),
                 (false, false) => continue,
             };
             let survey = Survey::new(either(&mut random, &path, other));
@@ -124,10 +136,10 @@ pub fn far(bench: &mut Bench) -> Outcome {
         let axes = axes(&sizes);
         for _ in 0..PAIRS {
             let path = base(&mut random, &sizes);
-            let vector = countable(&mut random, &sizes);
-            let place = place_of(&axes, &vector);
+            let digits = countable(&mut random, &sizes);
+            let place = place_of(&axes, &digits);
             let start = place.saturating_sub(LINES * axes[axes.len() - 1]);
-            let paths = either(&mut random, &path, barely(&path, &vector));
+            let paths = either(&mut random, &path, barely(&path, &digits));
             let survey = Survey::part(paths, start..place + 1);
             bench.same(&survey.first(start), &Some(place), || {
                 format!("the pair for place {place} of {axes:?}")
@@ -266,9 +278,9 @@ fn lanes(
     }
     places.sort_unstable();
     places.dedup();
-    let vector = |&place: &u64| vector_at(&axes, place).expect("a place below G");
-    let vectors: Vec<Vec<u64>> = places.iter().map(vector).collect();
-    let survey = Survey::new(either(random, path, spots(path, &vectors)));
+    let digits = |&place: &u64| digits_at(&axes, place).expect("a place below G");
+    let chosen_digits: Vec<Vec<u64>> = places.iter().map(digits).collect();
+    let survey = Survey::new(either(random, path, spots(path, &chosen_digits)));
     every(bench, runs, &survey, &places)?;
     let scratch = scratch(larger(&survey.paths) + 1);
     for back in [1, line, random.between(1, line)] {
@@ -294,10 +306,16 @@ fn every(bench: &mut Bench, runs: &mut Runs, survey: &Survey, places: &[u64]) ->
     let mut position = 0;
     for &place in places {
         let done = runs.run(bench, survey, position, u64::MAX, &scratch)?;
-        let vector = vector_at(&survey.axes, place).expect("a place below G");
-        let shown = &done.answer[RUN + 1..][..vector.len()];
-        bench.same(shown, &vector, || format!("from {position} to {place}"))?;
-        bench.same(&place_of(&survey.axes, shown), &place, || {
+        let sizes = &survey.paths[0].sizes;
+        let digits = digits_at(&survey.axes, place).expect("a place below G");
+        let words = &done.answer[RUN + 1..][..sizes.d()];
+        let shown = sizes.vector(words).ok_or("no full-width vector is shown")?;
+        bench.same(&shown, &vector_of(sizes, &digits), || {
+            format!("from {position} to {place}")
+        })?;
+        let far = shown.iter().zip(sizes.lowest());
+        let far: Vec<u64> = far.map(|(x, low)| (x - low) as u64).collect();
+        bench.same(&place_of(&survey.axes, &far), &place, || {
             format!("from {position}")
         })?;
         position = place + 1;

@@ -6,14 +6,34 @@ use reference::file::{Datapath, write};
 use reference::grid::{axes, place_of, size};
 use reference::random::Random;
 use reference::sessions::{DIFFERS, EQUIVALENT, KIND, MARK, POSITION, RUN, SPENT};
-use reference::sizes::Sizes;
+use reference::sizes::{SIGNED, Sizes};
 use reference::twins::{self, Kind, countable, late, twin};
 
 pub const SEED: u64 = 0x1a26_e5e5_5105;
 
 pub fn sessions(bench: &mut Bench) -> Outcome {
     let mut random = Random::new(SEED);
-    let list: [(u64, &[u64]); 8] = [
+    let list: [(u64, &[u64]); 11] = [
+        (64, &[SIGNED + 64; 10]),
+        (
+            64,
+            &[
+                SIGNED + 7,
+                6,
+                SIGNED + 64,
+                5,
+                64,
+                SIGNED + 1,
+                3,
+                64,
+                SIGNED + 2,
+                64,
+            ],
+        ),
+        (
+            8,
+            &[8, SIGNED + 8, 8, SIGNED + 8, 8, SIGNED + 8, 8, SIGNED + 8],
+        ),
         (64, &[64; 10]),
         (64, &[7, 6, 64, 5, 64, 1, 3, 64, 2, 64]),
         (63, &[8; 7]),
@@ -33,9 +53,9 @@ pub fn sessions(bench: &mut Bench) -> Outcome {
             let kind = random.pick(&[Kind::Same, Kind::Rewritten]);
             let other = twin(&mut random, &path, kind);
             equivalent(bench, &mut random, [&path, &other])?;
-            let vector = countable(&mut random, &sizes);
-            let place = place_of(&axes(&sizes), &vector);
-            differing(bench, [&path, &late(&path, &vector)], place)?;
+            let digits = countable(&mut random, &sizes);
+            let place = place_of(&axes(&sizes), &digits);
+            differing(bench, [&path, &late(&path, &digits)], place)?;
         }
     }
     Ok(())

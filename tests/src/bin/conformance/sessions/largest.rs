@@ -7,7 +7,7 @@ use crate::bench::{Bench, Outcome};
 use crate::grids::answer;
 use reference::expression::{Expression, x};
 use reference::sessions::{DIFFERS, EQUIVALENT, KIND, MARK, MARKS, Mark, POSITION, RUN, SPENT};
-use reference::sizes::INPUTS;
+use reference::sizes::{INPUTS, SIGNED, lowest, words_of};
 
 /// L(64).
 const AXIS: u64 = 66;
@@ -16,8 +16,14 @@ const AXIS: u64 = 66;
 const LAST: u64 = 2 * AXIS + 5;
 
 pub fn sessions(bench: &mut Bench) -> Outcome {
-    // The least word length with so many values, and the greatest.
-    for (d, width) in [(8, 7), (9, 64), (10, 64)] {
+    // The least word length with so many values, and the greatest; of signed inputs too.
+    for (d, width) in [
+        (8, 7),
+        (9, 64),
+        (10, 64),
+        (8, SIGNED + 7),
+        (10, SIGNED + 64),
+    ] {
         let count = AXIS.pow(d as u32);
         let file = |block: Expression| block.file(64, &vec![width; d]);
         let sum = || (2..=d).fold(x(1), |sum, input| sum + x(input));
@@ -28,7 +34,7 @@ pub fn sessions(bench: &mut Bench) -> Outcome {
             format!("the grid of {d} word lengths {width}")
         })?;
         equivalent(bench, [&block, &same], count)?;
-        differing(bench, [&block, &other], d)?;
+        differing(bench, [&block, &other], d, lowest(width))?;
         misplaced(bench, [&block, &same], count)?;
     }
     Ok(())
@@ -58,9 +64,9 @@ fn equivalent(bench: &mut Bench, files: Files, count: u64) -> Outcome {
     Ok(())
 }
 
-/// A pair that differs everywhere: the vector shown is that of the position, whose last two entries
-/// are the digits of its distance from the end.
-fn differing(bench: &mut Bench, files: Files, d: usize) -> Outcome {
+/// A pair that differs everywhere: the vector shown is that of the position, whose last two digits
+/// are those of its distance from the end, counted from the lowest value of the inputs.
+fn differing(bench: &mut Bench, files: Files, d: usize, least: i128) -> Outcome {
     let mut session = bench.start(files)?;
     let count = AXIS.pow(d as u32);
     for left in 1..=LAST {
@@ -68,11 +74,12 @@ fn differing(bench: &mut Bench, files: Files, d: usize) -> Outcome {
         let done = bench.answered(files, &session, u64::MAX, &scratch(64))?;
         let what = || format!("{left} vectors before the end");
         bench.same(&done.answer[KIND..=RUN], &[DIFFERS, 1], what)?;
-        let mut vector = vec![AXIS - 1; d];
-        vector[d - 2] -= (left - 1) / AXIS;
-        vector[d - 1] -= (left - 1) % AXIS;
+        let mut vector = vec![least + i128::from(AXIS) - 1; d];
+        vector[d - 2] -= i128::from((left - 1) / AXIS);
+        vector[d - 1] -= i128::from((left - 1) % AXIS);
         vector.resize(INPUTS, 0);
-        bench.same(&done.answer[RUN + 1..][..INPUTS], &vector[..], what)?;
+        let shown = &done.answer[RUN + 1..][..INPUTS];
+        bench.same(shown, &words_of(&vector)[..], what)?;
         let after = [count - left + 1, Mark::Differ as u64];
         bench.same(&done.session[POSITION..=MARK], &after, what)?;
     }

@@ -6,7 +6,7 @@ use super::Files;
 use crate::bench::{Bench, Outcome};
 use reference::compare::{Comparison, Verdict, compare_paths};
 use reference::file::{Datapath, write};
-use reference::grid::{axes, size};
+use reference::grid::{axes, full_width, size, vectors};
 use reference::random::Random;
 use reference::samples;
 use reference::sessions::{
@@ -18,7 +18,7 @@ use std::collections::BTreeMap;
 
 pub const SEED: u64 = 0x0115_75ee_d000;
 
-const LISTS: u64 = 3_000;
+const LISTS: u64 = 4_000;
 
 /// The most calls of a list.
 const CALLS: u64 = 16;
@@ -34,14 +34,15 @@ const EXHAUSTIVE_BITS: u64 = 10;
 /// Wider equivalent pairs are run at so many random full-width vectors.
 const SAMPLES: usize = 20;
 
-/// How often each answer has occurred, by number and by kind; each kind of pair, by verdict; and each
-/// count of inputs, by verdict.
+/// How often each answer has occurred, by number and by kind; each kind of pair, by verdict; each count
+/// of inputs, by verdict; and pairs with signed inputs and without, by verdict.
 #[derive(Default)]
 struct Seen {
     numbers: BTreeMap<u64, u64>,
     kinds: BTreeMap<u64, u64>,
     verdicts: BTreeMap<(Kind, u64), u64>,
     inputs: BTreeMap<(usize, u64), u64>,
+    signs: BTreeMap<(bool, u64), u64>,
     unfinished: u64,
 }
 
@@ -71,7 +72,7 @@ pub fn lists(bench: &mut Bench) -> Outcome {
         let paths = [twin(&mut random, &first, kind), first];
         let files = paths.each_ref().map(write);
         let files = files.each_ref().map(Vec::as_slice);
-        let expected = compare_paths(&axes(&sizes), &paths[0], &paths[1]);
+        let expected = compare_paths(vectors(&sizes), &paths[0], &paths[1]);
         let mut list = List {
             files,
             paths: &paths,
@@ -93,6 +94,10 @@ pub fn lists(bench: &mut Bench) -> Outcome {
             Some(answer) => {
                 *seen.verdicts.entry((kind, answer[KIND])).or_default() += 1;
                 *seen.inputs.entry((sizes.d(), answer[KIND])).or_default() += 1;
+                *seen
+                    .signs
+                    .entry((sizes.signed(), answer[KIND]))
+                    .or_default() += 1;
                 list.full_width(bench, &mut random)?;
             }
         }
@@ -229,8 +234,9 @@ impl List<'_> {
             None => (0, None),
             Some(answer) if answer[KIND] == EQUIVALENT => (1, Some(Verdict::Equivalent)),
             Some(answer) => {
-                let d = self.paths[0].sizes.d();
-                let vector = answer[RUN + 1..][..d].to_vec();
+                let sizes = &self.paths[0].sizes;
+                let words = &answer[RUN + 1..][..sizes.d()];
+                let vector = sizes.vector(words).ok_or("no full-width vector is shown")?;
                 let outputs = [answer[ANSWER - 2], answer[ANSWER - 1]];
                 (2, Some(Verdict::Differs { vector, outputs }))
             }
@@ -247,10 +253,8 @@ impl List<'_> {
     /// The verdict is that of all full-width vectors in dictionary order.
     fn full_width(&self, bench: &mut Bench, random: &mut Random) -> Outcome {
         let [left, right] = self.paths;
-        let widths = &left.sizes.widths;
-        if widths.iter().sum::<u64>() <= EXHAUSTIVE_BITS {
-            let ranges: Vec<u64> = widths.iter().map(|&n| 1 << n).collect();
-            let found = compare_paths(&ranges, left, right);
+        if left.sizes.bits() <= EXHAUSTIVE_BITS {
+            let found = compare_paths(full_width(&left.sizes), left, right);
             return bench.same(&found.verdict, &self.expected.verdict, || {
                 String::from("the verdict at all full-width vectors")
             });
@@ -298,6 +302,11 @@ impl Seen {
                 let found = self.inputs.get(&(d, verdict));
                 often(format!("verdicts {verdict} of {d} inputs"), found, 10)?;
             }
+        }
+        for verdict in [EQUIVALENT, DIFFERS] {
+            let [unsigned, signed] = [false, true].map(|sign| self.signs.get(&(sign, verdict)));
+            often(format!("verdicts {verdict}, unsigned"), unsigned, LISTS / 8)?;
+            often(format!("verdicts {verdict}, signed"), signed, LISTS / 20)?;
         }
         often(String::from("open lists"), Some(&self.unfinished), 300)
     }

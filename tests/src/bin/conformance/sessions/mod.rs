@@ -6,7 +6,10 @@
 //! | `bench` | one call compared with the reference |
 //! | `refusals` | each refusal, and which comes first where several conditions hold |
 //! | `positions` | every position, mark and field of a session |
-//! | `replay` | the pairs of the documents and of ten inputs, by budgets |
+//! | `replay` | the pairs of the documents, of ten and of signed inputs, by budgets |
+//! | `signs` | every mix of signed and unsigned inputs |
+//! | `exhaustive` | pairs of few bits, at all full-width vectors |
+//! | `biased` | signed pairs beside biased ones |
 //! | `large` | large grids, at their ends and between |
 //! | `largest` | the largest grids of eight to ten inputs, from their last places |
 //! | `lists` | random lists of calls, held against demand 3 |
@@ -18,8 +21,10 @@
 //! | `reports` | the text of an answer |
 
 mod bench;
+mod biased;
 mod counts;
 mod differences;
+mod exhaustive;
 mod large;
 mod largest;
 mod lists;
@@ -29,6 +34,7 @@ mod refusals;
 mod replay;
 mod reports;
 mod runs;
+mod signs;
 mod soak;
 mod spans;
 
@@ -37,7 +43,7 @@ use crate::Group;
 /// Two files, in the order of the call.
 type Files<'a> = [&'a [u8]; 2];
 
-pub const GROUPS: [Group; 21] = [
+pub const GROUPS: [Group; 26] = [
     ("openings refused", None, refusals::opening),
     ("precedence in open and continue", None, refusals::subsets),
     ("sizes of the two files", None, refusals::sizes),
@@ -50,6 +56,22 @@ pub const GROUPS: [Group; 21] = [
         "equivalences of document 002 by budgets",
         None,
         replay::examples,
+    ),
+    (
+        "pairs of signed inputs by budgets",
+        None,
+        replay::signed_pairs,
+    ),
+    ("mixes of signs", Some(signs::SEED), signs::mixes),
+    (
+        "pairs at all full-width vectors",
+        Some(exhaustive::SEED),
+        exhaustive::pairs,
+    ),
+    (
+        "signed pairs beside biased ones",
+        Some(biased::SEED),
+        biased::pairs,
     ),
     ("positions and marks", None, positions::places),
     ("damaged sessions", None, positions::fields),
@@ -98,6 +120,7 @@ pub const GROUPS: [Group; 21] = [
         Some(reports::VERDICTS_SEED),
         reports::verdicts,
     ),
+    ("reports of signed inputs", None, reports::signs),
     (
         "reports of any answer",
         Some(reports::ANSWERS_SEED),

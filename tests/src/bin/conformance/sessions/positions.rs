@@ -5,10 +5,11 @@ use super::bench::scratch;
 use crate::bench::{Bench, Outcome};
 use crate::refusals::plain;
 use reference::file::{Datapath, Step, read, write};
-use reference::grid::{axes, size, vectors};
+use reference::grid::{axes, digits, size};
 use reference::pairs::{SAMPLE_A, SAMPLE_B, pairs};
 use reference::sessions::{MARK, MARKS, POSITION, REFUSED, SESSION};
-use reference::sizes::Sizes;
+use reference::signed::{self, SAMPLE_SIGNED, SAMPLE_SIGNED_TEN, ZERO_SIGNED};
+use reference::sizes::{SIGNED, Sizes};
 use reference::ten_inputs::{self, SAMPLE_NINE, SAMPLE_TEN, ZERO_TEN};
 use reference::twins::late;
 
@@ -33,22 +34,20 @@ fn budgets(count: u64, position: u64) -> Vec<u64> {
     list
 }
 
-/// The pairs of document 01, those of eight to ten inputs, and one pair that first differs at each
-/// place in turn.
+/// The pairs of document 01, those of eight to ten inputs and of signed ones, and pairs that first
+/// differ at each place in turn.
 fn files() -> Vec<[Vec<u8>; 2]> {
-    let named = pairs().into_iter().chain(ten_inputs::pairs());
+    let named = [pairs(), ten_inputs::pairs(), signed::pairs()];
+    let named = named.into_iter().flatten();
     let mut list: Vec<[Vec<u8>; 2]> = named.map(|pair| pair.files).collect();
-    let sizes = Sizes {
-        m: 20,
-        widths: vec![1, 2, 1],
-    };
-    let grid = axes(&sizes);
-    let path = Datapath {
-        sizes,
-        steps: vec![Step::Input(1)],
-    };
-    for vector in vectors(&grid) {
-        list.push([write(&path), write(&late(&path, &vector))]);
+    for widths in [vec![1, 2, 1], vec![SIGNED + 1, 2, SIGNED + 1]] {
+        let sizes = Sizes { m: 20, widths };
+        let grid = axes(&sizes);
+        let steps = vec![Step::Input(1)];
+        let path = Datapath { sizes, steps };
+        for digits in digits(&grid) {
+            list.push([write(&path), write(&late(&path, &digits))]);
+        }
     }
     list
 }
@@ -73,12 +72,16 @@ pub fn places(bench: &mut Bench) -> Outcome {
     Ok(())
 }
 
-/// Each word of a session at every byte and at numbers that are no bytes; of sessions of eight to ten
-/// inputs, at some bytes.
+/// Each word of a session at every byte and at numbers that are no bytes, of signed inputs too; of
+/// sessions of eight to ten inputs, at some bytes.
 pub fn fields(bench: &mut Bench) -> Outcome {
-    let some = [0, 1, 2, 8, 9, 10, 11, 64, 255];
+    let some = [0, 1, 2, 8, 9, 10, 11, 64, 128, 129, 192, 255];
+    let all = Vec::from_iter(0..=255);
     let eight = plain(2, &[1; 8], 3);
-    damaged(bench, [&SAMPLE_A, &SAMPLE_B], 8, &Vec::from_iter(0..=255))?;
+    damaged(bench, [&SAMPLE_A, &SAMPLE_B], 8, &all)?;
+    damaged(bench, [&SAMPLE_SIGNED, &ZERO_SIGNED], 80, &all)?;
+    let ten = &SAMPLE_SIGNED_TEN;
+    damaged(bench, [ten, ten], 1024, &some)?;
     damaged(bench, [&eight, &eight], 256, &some)?;
     damaged(bench, [&SAMPLE_NINE, &SAMPLE_NINE], 512, &some)?;
     damaged(bench, [&SAMPLE_TEN, &ZERO_TEN], 1024, &some)

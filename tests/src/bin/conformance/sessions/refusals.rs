@@ -4,18 +4,16 @@ use super::Files;
 use super::bench::scratch;
 use crate::bench::{Bench, Outcome};
 use crate::faults::{
-    Fault, FileFault, MANY_WIDTHS, STEPS, WIDTHS, all_widths, file_faults, of_file, sound_file,
-    sound_sizes, subsets as sets,
+    Fault, FileFault, MANY_WIDTHS, SIGNED_WIDTHS, STEPS, WIDTHS, all_widths, file_faults,
+    grid_size, of_file, sound_file, sound_sizes, subsets as sets,
 };
 use crate::refusals::plain;
 use reference::file::read;
 use reference::pairs::{SAMPLE_A, SAMPLE_B};
 use reference::sessions::{MARK, POSITION, SESSION};
-use reference::sizes::INPUTS;
+use reference::signed::{SAMPLE_SIGNED, SAMPLE_SIGNED_TEN, ZERO_SIGNED};
+use reference::sizes::{INPUTS, SIGNED, is_signed};
 use reference::ten_inputs::{SAMPLE_NINE, SAMPLE_TEN, ZERO_TEN};
-
-/// G of the sound file of two inputs; that of d inputs of one bit is 2^d.
-const GRID: u64 = 80;
 
 /// What a continue call is given; an opening takes the files of it.
 struct Call {
@@ -37,8 +35,10 @@ fn sound(widths: &[u64]) -> Call {
 }
 
 /// Faults in the order of a continue call, those of the files by number and step. The number 102 is
-/// made to hold under every mark.
-fn faults(widths: &[u64], grid: u64, chosen: &[(u64, u64)]) -> Vec<Fault<Call>> {
+/// made to hold under every mark. Of signed inputs, 9 and 101 are by a mark alone.
+fn faults(widths: &[u64], chosen: &[(u64, u64)]) -> Vec<Fault<Call>> {
+    let grid = grid_size(widths);
+    let signed = is_signed(widths[0]);
     let among = |fault: &FileFault| chosen.contains(&(fault.number, fault.step));
     let mut list: Vec<Fault<Call>> = vec![([11, 0, 0], Box::new(|call| call.budget = 0))];
     list.extend(of_file(1, widths, among, |call: &mut Call| {
@@ -47,9 +47,21 @@ fn faults(widths: &[u64], grid: u64, chosen: &[(u64, u64)]) -> Vec<Fault<Call>> 
     list.extend(of_file(2, widths, among, |call: &mut Call| {
         &mut call.files[1]
     }));
-    list.push(([9, 0, 0], Box::new(|call| call.files[1][5] = 4)));
+    list.push((
+        [9, 0, 0],
+        match signed {
+            true => Box::new(|call| call.files[1][5] ^= 128),
+            false => Box::new(|call| call.files[1][5] = 4),
+        },
+    ));
     list.push(([12, 0, 0], Box::new(|call| call.scratch -= 1)));
-    list.push(([101, 0, 0], Box::new(|call| call.session[POSITION - 1] = 2)));
+    list.push((
+        [101, 0, 0],
+        match signed {
+            true => Box::new(|call| call.session[2] -= SIGNED),
+            false => Box::new(|call| call.session[POSITION - 1] = 2),
+        },
+    ));
     list.push((
         [102, 0, 0],
         Box::new(move |call| call.session[POSITION] = grid + 1),
@@ -64,14 +76,14 @@ fn faults(widths: &[u64], grid: u64, chosen: &[(u64, u64)]) -> Vec<Fault<Call>> 
     list
 }
 
-/// Every set of fourteen faults, in continue and in open. Of eight inputs and more, others of the
-/// files' faults are chosen: with the long head, 1 is judged before 2 and after 3.
+/// Every set of fourteen faults, in continue and in open. Of eight inputs and more, and of signed ones,
+/// others of the files' faults are chosen: with the long head, 1 is judged before 2 and after 3.
 pub fn subsets(bench: &mut Bench) -> Outcome {
     let chosen = [(2, 0), (6, 0), (7, 0), (8, 4)];
-    every(bench, &WIDTHS, &faults(&WIDTHS, GRID, &chosen))?;
+    every(bench, &WIDTHS, &faults(&WIDTHS, &chosen))?;
     let chosen = [(1, 0), (5, 0), (8, 4)];
-    for widths in MANY_WIDTHS {
-        every(bench, widths, &faults(widths, 1 << widths.len(), &chosen))?;
+    for widths in MANY_WIDTHS.into_iter().chain(SIGNED_WIDTHS) {
+        every(bench, widths, &faults(widths, &chosen))?;
     }
     Ok(())
 }
@@ -135,7 +147,18 @@ pub fn opening(bench: &mut Bench) -> Outcome {
     }
     refuses(bench, [&[], &[]], [1, 1, 0])?;
     refuses(bench, [&SAMPLE_NINE, &SAMPLE_TEN], [9, 0, 0])?;
-    let samples: [(Files, [u64; SESSION]); 3] = [
+    refuses(bench, [&SAMPLE_TEN, &SAMPLE_SIGNED_TEN], [9, 0, 0])?;
+    let samples: [(Files, [u64; SESSION]); 5] = [
+        (
+            [&SAMPLE_SIGNED, &ZERO_SIGNED],
+            [8, 2, 136, 3, 0, 0, 0, 0, 0, 0, 0, 0, 0, 0],
+        ),
+        (
+            [&SAMPLE_SIGNED_TEN, &SAMPLE_SIGNED_TEN],
+            [
+                2, 10, 129, 129, 129, 129, 129, 129, 129, 129, 129, 129, 0, 0,
+            ],
+        ),
         (
             [&SAMPLE_A, &SAMPLE_B],
             [2, 2, 1, 2, 0, 0, 0, 0, 0, 0, 0, 0, 0, 0],
@@ -156,24 +179,29 @@ pub fn opening(bench: &mut Bench) -> Outcome {
     Ok(())
 }
 
-/// Number 9 by m, by d and by each word length; and pairs of all sizes opened.
+/// Number 9 by m, by d, by each word length and by each mark; and pairs of all sizes opened.
 pub fn sizes(bench: &mut Bench) -> Outcome {
-    for d in 1..=INPUTS {
-        let widths = vec![9; d];
+    for (d, width) in (1..=INPUTS).flat_map(|d| [(d, 9), (d, SIGNED + 9)]) {
+        let widths = vec![width; d];
         let file = plain(8, &widths, 3);
         refuses(bench, [&file, &plain(9, &widths, 3)], [9, 0, 0])?;
         refuses(bench, [&plain(7, &widths, 1), &file], [9, 0, 0])?;
         let mut longer = widths.clone();
-        longer.push(9);
+        longer.push(width);
         if d < INPUTS {
             refuses(bench, [&file, &plain(8, &longer, 3)], [9, 0, 0])?;
             refuses(bench, [&plain(8, &longer, 3), &file], [9, 0, 0])?;
         }
         for input in 0..d {
-            for width in [8, 10, 64] {
+            for other in [8, 10, 64, 9, SIGNED + 9, SIGNED + 64] {
+                if other == width {
+                    continue;
+                }
                 let mut others = widths.clone();
-                others[input] = width;
-                refuses(bench, [&file, &plain(8, &others, 3)], [9, 0, 0])?;
+                others[input] = other;
+                let other = plain(8, &others, 3);
+                refuses(bench, [&file, &other], [9, 0, 0])?;
+                refuses(bench, [&other, &file], [9, 0, 0])?;
             }
         }
         for m in 1..=64 {

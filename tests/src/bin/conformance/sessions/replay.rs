@@ -1,28 +1,40 @@
-//! The pairs of document 01, those of eight to ten inputs and the examples of document 002, run to a
-//! verdict by various budgets.
+//! The pairs of document 01, those of eight to ten inputs and of signed ones, and the examples of
+//! document 002, run to a verdict by various budgets; and all of these with every input signed.
 
 use super::Files;
 use super::bench::scratch;
 use crate::bench::{Bench, Outcome};
+use crate::replay::all_signed;
 use reference::compare::{Comparison, Verdict};
 use reference::examples;
 use reference::file::read;
 use reference::grid::{axes, size};
 use reference::pairs::{self, Pair};
 use reference::sessions::{ANSWER, DIFFERS, EQUIVALENT, KIND, MARK, POSITION, REFUSED, RUN, SPENT};
+use reference::signed;
+use reference::sizes::Sizes;
 use reference::ten_inputs;
 
 pub fn pairs(bench: &mut Bench) -> Outcome {
     for pair in pairs::pairs().iter().chain(&ten_inputs::pairs()) {
         replay(bench, pair)?;
+        replay(bench, &all_signed(pair)?)?;
     }
     nine_and_one(bench)
 }
 
-pub fn examples(bench: &mut Bench) -> Outcome {
-    examples::pairs()
+pub fn signed_pairs(bench: &mut Bench) -> Outcome {
+    signed::pairs()
         .iter()
         .try_for_each(|pair| replay(bench, pair))
+}
+
+pub fn examples(bench: &mut Bench) -> Outcome {
+    for pair in examples::pairs() {
+        replay(bench, &pair)?;
+        replay(bench, &all_signed(&pair)?)?;
+    }
+    Ok(())
 }
 
 /// Document 01's first pair: budget 9 is spent, then budget 1 finds the two equivalent.
@@ -53,7 +65,7 @@ fn replay(bench: &mut Bench, pair: &Pair) -> Outcome {
     let mut budgets = vec![1, 2, 3, 7, run, run + 1, count, count + 1, u64::MAX];
     budgets.extend([run - 1, count - 1].iter().filter(|&&budget| budget > 0));
     for budget in budgets {
-        let found = to_verdict(bench, files, path.sizes.d(), budget)?;
+        let found = to_verdict(bench, files, &path.sizes, budget)?;
         bench.same(&found, &pair.expected, || {
             format!("{name} by budgets of {budget}")
         })?;
@@ -62,7 +74,7 @@ fn replay(bench: &mut Bench, pair: &Pair) -> Outcome {
 }
 
 /// Continues with this budget to a verdict; then the session is closed.
-fn to_verdict(bench: &mut Bench, files: Files, d: usize, budget: u64) -> Outcome<Comparison> {
+fn to_verdict(bench: &mut Bench, files: Files, sizes: &Sizes, budget: u64) -> Outcome<Comparison> {
     let scratch = scratch(files[0].len().max(files[1].len()) / 9);
     let mut session = bench.start(files)?;
     let mut run = 0;
@@ -77,7 +89,8 @@ fn to_verdict(bench: &mut Bench, files: Files, d: usize, budget: u64) -> Outcome
             SPENT => continue,
             EQUIVALENT => (Verdict::Equivalent, 1),
             DIFFERS => {
-                let vector = answer[RUN + 1..][..d].to_vec();
+                let words = &answer[RUN + 1..][..sizes.d()];
+                let vector = sizes.vector(words).ok_or("no full-width vector is shown")?;
                 let outputs = [answer[ANSWER - 2], answer[ANSWER - 1]];
                 (Verdict::Differs { vector, outputs }, 2)
             }

@@ -12,7 +12,7 @@ use std::collections::BTreeMap;
 
 pub const SEED: u64 = 0x5e55_10e5_eed0;
 
-const CALLS: u64 = 40_000;
+const CALLS: u64 = 54_000;
 
 /// The most vectors that a call is let run.
 const VECTORS: u64 = 120;
@@ -26,6 +26,9 @@ struct Seen {
     kinds: BTreeMap<u64, u64>,
     /// Accepted calls, by d.
     accepted_d: BTreeMap<usize, u64>,
+    /// Accepted calls without signed inputs and with some, by kind.
+    unsigned: BTreeMap<u64, u64>,
+    signed: BTreeMap<u64, u64>,
     /// Sessions that don't fit their fields, and openings.
     unfit: u64,
     opened: u64,
@@ -56,6 +59,11 @@ pub fn sessions(bench: &mut Bench) -> Outcome {
                 *seen.kinds.entry(done.answer[KIND]).or_default() += 1;
                 if done.answer[0] == 0 {
                     *seen.accepted_d.entry(sizes.d()).or_default() += 1;
+                    let signs = match sizes.signed() {
+                        true => &mut seen.signed,
+                        false => &mut seen.unsigned,
+                    };
+                    *signs.entry(done.answer[KIND]).or_default() += 1;
                 }
             }
         }
@@ -103,7 +111,8 @@ fn session(random: &mut Random, sizes: &Sizes, count: u64) -> [u64; SESSION] {
     };
     if random.chance(15) {
         let index = random.index(SESSION);
-        session[index] = match random.below(6) {
+        session[index] = match random.below(7) {
+            6 => session[index] ^ 128,
             0 => session[index].wrapping_add(1),
             1 => session[index].wrapping_sub(1),
             2 => 255,
@@ -159,6 +168,14 @@ impl Seen {
         }
         for d in 1..=INPUTS {
             often(format!("accepted, d {d}"), self.accepted_d.get(&d), 300)?;
+        }
+        for kind in [SPENT, EQUIVALENT, DIFFERS] {
+            often(
+                format!("kind {kind}, unsigned"),
+                self.unsigned.get(&kind),
+                1_500,
+            )?;
+            often(format!("kind {kind}, signed"), self.signed.get(&kind), 500)?;
         }
         often(String::from("unfit sessions"), Some(&self.unfit), 500)?;
         often(String::from("openings"), Some(&self.opened), CALLS / 2)

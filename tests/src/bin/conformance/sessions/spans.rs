@@ -8,7 +8,7 @@ use reference::grid::{axes, size};
 use reference::mixed;
 use reference::random::Random;
 use reference::sessions::{EQUIVALENT, KIND, RUN, SPENT, Survey, larger};
-use reference::sizes::Sizes;
+use reference::sizes::{SIGNED, Sizes};
 use reference::twins::{Kind, twin};
 
 pub const SEED: u64 = 0x57e7_c4e5_eed0;
@@ -19,8 +19,16 @@ const LINES: u64 = 20;
 
 const STEPS: usize = 9;
 
-/// m and word lengths: one line of many lengths, and lines of 2, 4, 6, 8, 10, 16, 18 and 34.
-const GRIDS: [(u64, &[u64]); 24] = [
+/// m and widths: one line of many lengths, and lines of 2, 4, 6, 8, 10, 16, 18 and 34.
+const GRIDS: [(u64, &[u64]); 32] = [
+    (1, &[SIGNED + 1]),
+    (64, &[SIGNED + 64]),
+    (31, &[1, SIGNED + 1, 1, 1, 1, 1, 1, 1, SIGNED + 1]),
+    (64, &[SIGNED + 64, SIGNED + 1]),
+    (8, &[SIGNED + 3, 3, SIGNED + 1]),
+    (32, &[3, SIGNED + 3, SIGNED + 2]),
+    (16, &[1, SIGNED + 2, 2, SIGNED + 16]),
+    (4, &[4, SIGNED + 4, 4]),
     (1, &[1]),
     (5, &[8]),
     (8, &[8]),
@@ -48,7 +56,9 @@ const GRIDS: [(u64, &[u64]); 24] = [
 ];
 
 /// Large grids, and so many positions in the last lines of each.
-const LARGE: [(u64, &[u64]); 6] = [
+const LARGE: [(u64, &[u64]); 8] = [
+    (64, &[SIGNED + 64; 10]),
+    (33, &[SIGNED + 32, 64, SIGNED + 2, 64, SIGNED + 5]),
     (64, &[64; 10]),
     (64, &[64, 64, 64, 64, 64, 64, 64, 64, 64, 1]),
     (33, &[32, 64, 2, 64, 5]),

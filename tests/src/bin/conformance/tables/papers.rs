@@ -1,15 +1,17 @@
-//! The tables of both documents and those of nine and ten inputs: made from the file, differenced
-//! from its outputs, and summed.
+//! The tables of both documents, those of nine and ten inputs and of signed ones: made from the file,
+//! differenced from its outputs, and summed.
 
 use crate::bench::{Bench, Outcome};
 use reference::grid::{axes, place_of, size, vectors};
 use reference::newton_examples;
+use reference::signed;
 use reference::sizes::Sizes;
 use reference::ten_inputs;
 
 pub fn tables(bench: &mut Bench) -> Outcome {
     let list = newton_examples::tables().into_iter();
-    for example in list.chain(ten_inputs::tables()) {
+    let many = ten_inputs::tables().into_iter();
+    for example in list.chain(many).chain(signed::tables()) {
         let name = example.name;
         let file = example.polynomial.file(example.m, &example.widths);
         let sizes = Sizes {
@@ -22,7 +24,7 @@ pub fn tables(bench: &mut Bench) -> Outcome {
             expected[place_of(&axes, &k) as usize] = cell;
         }
         let mut outputs = Vec::new();
-        for vector in vectors(&axes) {
+        for vector in vectors(&sizes) {
             outputs.push(bench.output(&file, &vector)?);
         }
         let made = bench.table_of(&file, expected.len())?;

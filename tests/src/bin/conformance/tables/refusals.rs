@@ -4,13 +4,14 @@ use super::bench::filling;
 use super::product::Numbers;
 use crate::bench::{Bench, Outcome};
 use crate::faults::{
-    Fault, FileFault, MANY_WIDTHS, STEPS, WIDTHS, at_the_ends, of_file, sound_file, sound_sizes,
-    subsets,
+    Fault, FileFault, MANY_WIDTHS, SIGNED_WIDTHS, STEPS, WIDTHS, all_widths, at_the_ends,
+    grid_size, of_file, sound_file, sound_sizes, subsets,
 };
 use crate::refusals::plain;
 use reference::grid::{axes, size};
 use reference::samples::top;
-use reference::sizes::Sizes;
+use reference::signed::all_marked;
+use reference::sizes::{SIGNED, Sizes};
 use reference::tables::Written;
 
 /// What a call of table is given.
@@ -20,25 +21,18 @@ struct TableCall {
     cells: usize,
 }
 
-/// G of the sound file of two inputs; that of d inputs of one bit is 2^d.
-const GRID: usize = 80;
-
 /// Every set of sixteen faults, and of those in the head and at the first and last step where the
-/// file has eight inputs or more.
+/// file has eight inputs or more, or signed ones.
 pub fn of_table(bench: &mut Bench) -> Outcome {
-    every(bench, &WIDTHS, GRID, |_| true)?;
-    for widths in MANY_WIDTHS {
-        every(bench, widths, 1 << widths.len(), at_the_ends)?;
+    every(bench, &WIDTHS, |_| true)?;
+    for widths in MANY_WIDTHS.into_iter().chain(SIGNED_WIDTHS) {
+        every(bench, widths, at_the_ends)?;
     }
     Ok(())
 }
 
-fn every(
-    bench: &mut Bench,
-    widths: &[u64],
-    cells: usize,
-    chosen: fn(&FileFault) -> bool,
-) -> Outcome {
+fn every(bench: &mut Bench, widths: &[u64], chosen: fn(&FileFault) -> bool) -> Outcome {
+    let cells = grid_size(widths) as usize;
     let mut faults = of_file(1, widths, chosen, |call: &mut TableCall| &mut call.file);
     faults.push(([12, 0, 0], Box::new(|call| call.scratch -= 1)));
     faults.push(([13, 0, 0], Box::new(|call| call.cells -= 1)));
@@ -71,21 +65,23 @@ fn sound(widths: &[u64], cells: usize) -> CellCall {
     }
 }
 
-/// Every set of faults in the sizes and in both slices, of two inputs and of eight to ten.
+/// Every set of faults in the sizes and in both slices, of two inputs and of eight to ten; of signed
+/// ones, the faults of widths keep the mark or are the mark alone.
 pub fn of_cells(bench: &mut Bench) -> Outcome {
-    let many = MANY_WIDTHS.map(|widths| (widths, 1 << widths.len()));
-    for (widths, cells) in [(&WIDTHS[..], GRID)].into_iter().chain(many) {
-        // the first unused word length, made 1; of ten inputs the last one, made 65
-        let (place, wrong) = if widths.len() < 10 {
-            (2 + widths.len(), 1)
-        } else {
-            (11, 65)
+    for widths in all_widths() {
+        let cells = grid_size(widths) as usize;
+        let mark = widths[0] / SIGNED * SIGNED;
+        // the first unused width, made 1 or a mark alone; of ten inputs the last one, made 65
+        let (place, wrong) = match (widths.len() < 10, mark) {
+            (true, 0) => (2 + widths.len(), 1),
+            (true, _) => (2 + widths.len(), SIGNED),
+            (false, _) => (11, 65 + mark),
         };
         let faults: [Fault<CellCall>; 10] = [
             ([2, 0, 0], Box::new(|call| call.numbers[0] = 65)),
             ([3, 0, 0], Box::new(|call| call.numbers[1] = 11)),
-            ([5, 0, 0], Box::new(|call| call.numbers[2] = 0)),
-            ([5, 0, 0], Box::new(|call| call.numbers[3] = 65)),
+            ([5, 0, 0], Box::new(move |call| call.numbers[2] = mark)),
+            ([5, 0, 0], Box::new(move |call| call.numbers[3] = 65 + mark)),
             ([5, 0, 0], Box::new(move |call| call.numbers[place] = wrong)),
             ([5, 0, 0], Box::new(|call| call.numbers[11] = 255)),
             ([13, 0, 0], Box::new(|call| call.lent -= 1)),
@@ -129,7 +125,11 @@ fn both(
 /// Slices one short, exact and long; entries past G stay, and those of the slice that is read are
 /// free.
 pub fn lengths(bench: &mut Bench) -> Outcome {
-    let list: [(u64, &[u64]); 9] = [
+    let list: [(u64, &[u64]); 13] = [
+        (1, &[SIGNED + 1]),
+        (8, &[SIGNED + 8]),
+        (5, &[SIGNED + 2, 64, SIGNED + 1]),
+        (2, &[1, 1, 129, 1, 1, 129, 1, 1, 1, 129]),
         (1, &[1]),
         (1, &[1; 8]),
         (1, &[64; 9]),
@@ -182,21 +182,28 @@ pub fn cells(bench: &mut Bench) -> Outcome {
             4 | 12 => vec![1; 8],
             _ => vec![2, 3],
         };
-        let sizes = Sizes { m, widths };
-        let count = size(&axes(&sizes)) as usize;
-        let greatest = top(m);
-        let full = vec![greatest; count + 1];
-        both(bench, &sizes.numbers(), &full, count, Some([0, 0, 0]))?;
-        for place in [0, 1, count / 2, count - 1, count] {
-            for cell in [greatest.checked_add(1), Some(u64::MAX)] {
-                let Some(cell) = cell.filter(|_| m < 64) else {
-                    continue;
-                };
-                let mut given = full.clone();
-                given[place] = cell;
-                let number = if place < count { 13 } else { 0 };
-                both(bench, &sizes.numbers(), &given, count, Some([number, 0, 0]))?;
-            }
+        let signed = all_marked(&widths);
+        for widths in [widths, signed] {
+            cells_of(bench, &Sizes { m, widths })?;
+        }
+    }
+    Ok(())
+}
+
+fn cells_of(bench: &mut Bench, sizes: &Sizes) -> Outcome {
+    let count = size(&axes(sizes)) as usize;
+    let greatest = top(sizes.m);
+    let full = vec![greatest; count + 1];
+    both(bench, &sizes.numbers(), &full, count, Some([0, 0, 0]))?;
+    for place in [0, 1, count / 2, count - 1, count] {
+        for cell in [greatest.checked_add(1), Some(u64::MAX)] {
+            let Some(cell) = cell.filter(|_| sizes.m < 64) else {
+                continue;
+            };
+            let mut given = full.clone();
+            given[place] = cell;
+            let number = if place < count { 13 } else { 0 };
+            both(bench, &sizes.numbers(), &given, count, Some([number, 0, 0]))?;
         }
     }
     Ok(())
@@ -206,7 +213,16 @@ pub fn cells(bench: &mut Bench) -> Outcome {
 const MOST: usize = 1_024;
 
 /// Sizes of eight to eleven inputs as numbers, and the condition that refuses them, or 0.
-const MANY_INPUTS: [(Numbers, u64); 9] = [
+const MANY_INPUTS: [(Numbers, u64); 18] = [
+    ([8, 8, 129, 1, 129, 1, 129, 1, 1, 129, 0, 0], 0),
+    ([8, 8, 129, 1, 129, 1, 129, 1, 1, 129, 128, 0], 5),
+    ([8, 8, 129, 1, 129, 1, 129, 1, 1, 129, 0, 128], 5),
+    ([8, 9, 129, 129, 129, 129, 129, 129, 129, 129, 129, 0], 0),
+    ([8, 9, 129, 129, 129, 129, 129, 129, 129, 129, 129, 128], 5),
+    ([8, 9, 129, 129, 129, 129, 129, 129, 129, 129, 128, 0], 5),
+    ([8, 10, 1, 1, 1, 1, 1, 1, 1, 1, 1, 129], 0),
+    ([8, 10, 1, 1, 1, 1, 1, 1, 1, 1, 1, 128], 5),
+    ([8, 10, 1, 1, 1, 1, 1, 1, 1, 1, 1, 193], 5),
     ([8, 8, 1, 1, 1, 1, 1, 1, 1, 1, 0, 0], 0),
     ([8, 8, 1, 1, 1, 1, 1, 1, 1, 1, 1, 0], 5),
     ([8, 8, 1, 1, 1, 1, 1, 1, 1, 1, 0, 1], 5),
@@ -221,7 +237,9 @@ const MANY_INPUTS: [(Numbers, u64); 9] = [
 /// Each of the twelve numbers at every byte and past it; and sizes of many inputs.
 pub fn numbers(bench: &mut Bench) -> Outcome {
     let wide = [256, 257, 266, 1 << 32, (1 << 32) + 8, 1 << 63, u64::MAX];
-    let list: [(u64, &[u64]); 5] = [
+    let list: [(u64, &[u64]); 7] = [
+        (8, &[SIGNED + 8, SIGNED + 3]),
+        (8, &[SIGNED + 1; 10]),
         (8, &WIDTHS),
         (64, &[64]),
         (1, &[1; 8]),

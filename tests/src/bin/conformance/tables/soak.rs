@@ -2,7 +2,7 @@
 
 use crate::bench::{Bench, Outcome};
 use reference::file::{read, write};
-use reference::grid::{axes, size, vector_at};
+use reference::grid::{axes, digits_at, size, vector_of};
 use reference::random::Random;
 use reference::samples::{self, SHAPES, top};
 use reference::sizes::{INPUTS, Sizes};
@@ -12,8 +12,8 @@ use std::collections::BTreeMap;
 
 pub const SEED: u64 = 0x7ab1_e5ee_d000;
 
-const TABLES: u64 = 4_800;
-const FILES: u64 = 2_400;
+const TABLES: u64 = 6_400;
+const FILES: u64 = 3_200;
 
 /// The most cells of a random table, and of the table of a random file, but where there are eight
 /// inputs or more; and how many of a hundred are such.
@@ -27,6 +27,9 @@ struct Seen {
     answers: BTreeMap<u64, u64>,
     accepted_m: BTreeMap<u64, u64>,
     accepted_d: BTreeMap<usize, u64>,
+    /// Accepted calls with no signed input, and with some.
+    unsigned: u64,
+    signed: u64,
     exact: u64,
 }
 
@@ -36,6 +39,10 @@ impl Seen {
         if number == 0 {
             *self.accepted_m.entry(sizes.m).or_default() += 1;
             *self.accepted_d.entry(sizes.d()).or_default() += 1;
+            match sizes.signed() {
+                true => self.signed += 1,
+                false => self.unsigned += 1,
+            }
         }
     }
 
@@ -54,7 +61,10 @@ impl Seen {
         for d in 1..=INPUTS {
             often(format!("accepted, d {d}"), self.accepted_d.get(&d))?;
         }
-        Ok(())
+        let most = self.unsigned > 2 * self.signed;
+        bench.same(&(most && self.signed > 8 * least), &true, || {
+            format!("{} unsigned and {} signed", self.unsigned, self.signed)
+        })
     }
 }
 
@@ -145,7 +155,8 @@ pub fn files(bench: &mut Bench) -> Outcome {
             let summed = bench.sums(&path.sizes, &made.written.cells[..count])?;
             bench.cells(&summed, &outputs(&path), || format!("sum, {sizes:?}"))?;
             let place = random.index(count);
-            let vector = vector_at(&axes, place as u64).ok_or("a place below G")?;
+            let digits = digits_at(&axes, place as u64).ok_or("a place below G")?;
+            let vector = vector_of(&path.sizes, &digits);
             let output = bench.output(&file, &vector)?;
             bench.same(&summed[place], &output, || format!("{sizes:?}, {vector:?}"))?;
         }

@@ -3,7 +3,7 @@
 --   CellsOrder z cells len r   r is what the call is refused by:
 --     output   m is not 1 to 64: by 2
 --     inputs   else, d is not 1 to maxInputs: by 3
---     widths   else, a word length breaks its rule: by 5
+--     widths   else, a width byte breaks its rule: by 5
 --     entries  else, a slice has fewer than G entries, or one of the first G that are read is 2^m or more: by 13
 --   CellsInOrder               so the calls judge. Proved in proofs/Order
 use mathlib.Core.List.{List}

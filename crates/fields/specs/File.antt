@@ -1,11 +1,11 @@
 -- The fields of a datapath file, a list of bytes (document 01, 'The datapath file').
---   shortInputs      the most inputs of a file with a short head, which has a word-length byte for each of these
---   widthBytes d     the word-length bytes of a file with d inputs: shortInputs, or maxInputs where there are more inputs than that
+--   shortInputs      the most inputs of a file with a short head, which has a width byte for each of these
+--   widthBytes d     the width bytes of a file with d inputs: shortInputs, or maxInputs where there are more inputs than that
 --   shortHead, longHead
---                    the bytes of a short head, the least that a file has, and of a long one, which has maxInputs word-length bytes
+--                    the bytes of a short head, the least that a file has, and of a long one, which has maxInputs width bytes
 --   headLength d     the bytes of the head of a file with d inputs, before the operation bytes
 --   HeadLengths      they are 12, or 14 where there are more than eight inputs. Proved in proofs/Heads
---   sizesOf s        m, d and the word lengths
+--   sizesOf s        m, d and the width bytes
 --   headOf s         the bytes of the file's own head
 --   stepCount s      N
 --   operation s k    the operation byte of step k
@@ -19,7 +19,7 @@
 --   FieldsInOrder    each field is read from the part that document 01 has it in. Proved in proofs/Parts:
 --     output, inputs, count
 --                 m is byte 0, d is byte 1, and N is bytes 2 and 3, the first weighing least
---     widths      the word lengths are bytes 4 and on of the head, one by one
+--     widths      the width bytes are bytes 4 and on of the head, one by one
 --     unused      and 0 where the head has no more
 --     operations  the operation bytes are the second part
 --     operation   that of step k is its byte k
@@ -41,7 +41,7 @@ shortInputs = 8
 unfoldable pub widthBytes : ℕ → ℕ
 widthBytes d = cond (leb d shortInputs) shortInputs maxInputs
 
--- where the word lengths begin
+-- where the width bytes begin
 abbrev pub widthsFrom : ℕ
 widthsFrom = 4
 

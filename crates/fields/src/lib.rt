@@ -24,16 +24,16 @@ ghost use Rattle.fields.specs.File.{
 };
 ghost use Rattle.fields.specs.Steps.{stepAt};
 
-// Where the word lengths of the inputs begin.
+// Where the width bytes of the inputs begin.
 const WIDTHS: usize = 4;
 
-// The most inputs of a file with a short head, which has a word-length byte for each of these.
+// The most inputs of a file with a short head, which has a width byte for each of these.
 const SHORT_INPUTS: usize = 8;
 
 // The bytes of a short head, the least that a file has.
 pub const SHORT_HEAD: usize = WIDTHS + SHORT_INPUTS;
 
-// The bytes of a long head, which has a word-length byte for each input that a file may have.
+// The bytes of a long head, which has a width byte for each input that a file may have.
 pub const LONG_HEAD: usize = WIDTHS + INPUTS;
 
 // The largest count of steps.
@@ -55,7 +55,7 @@ pub fn input_count(file: &[u8]) -> u64
     file[1] as u64
 }
 
-// The word-length bytes of a file with d inputs.
+// The width bytes of a file with d inputs.
 fn width_bytes(d: u64) -> usize
     ensures { λ r. ⌜ r ≡ widthBytes d ⌝ }
 {
@@ -73,7 +73,7 @@ pub fn head_of(file: &[u8]) -> usize
     WIDTHS + width_bytes(input_count(file))
 }
 
-// The first `count` word-length bytes, and 0 after them. It is called with constants, so that it is compiled for each.
+// The first `count` width bytes, and 0 after them. It is called with constants, so that it is compiled for each.
 fn read_widths(file: &[u8], count: usize) -> [u8; INPUTS]
     requires { ⌜ (count ≤ maxInputs) × (widthsFrom + count ≤ length (now file)) ⌝ }
     ensures { λ r. ⌜ r ≡ padded (take count (drop widthsFrom (now (file .entry)))) ⌝ }
@@ -87,8 +87,8 @@ fn read_widths(file: &[u8], count: usize) -> [u8; INPUTS]
     widths
 }
 
-// The word lengths, with 0 for those that the head does not have.
-fn word_lengths(file: &[u8]) -> [u8; INPUTS]
+// The width bytes, with 0 for those that the head does not have.
+fn widths_of(file: &[u8]) -> [u8; INPUTS]
     requires { ⌜ headOf (now file) ≤ length (now file) ⌝ }
     ensures { λ r. ⌜ r ≡ sizesOf (now (file .entry)) .widths ⌝ }
 {
@@ -99,12 +99,12 @@ fn word_lengths(file: &[u8]) -> [u8; INPUTS]
     read_widths(file, INPUTS)
 }
 
-// m, d and the word lengths.
+// m, d and the width bytes.
 pub fn read_sizes(file: &[u8]) -> Sizes
     requires { ⌜ headOf (now file) ≤ length (now file) ⌝ }
     ensures { λ r. ⌜ r ≡ sizesOf (now (file .entry)) ⌝ }
 {
-    let widths = word_lengths(file);
+    let widths = widths_of(file);
     Sizes {
         m: output_length(file) as u8,
         d: file[1],

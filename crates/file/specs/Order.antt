@@ -10,7 +10,7 @@
 --     inputs      else, d is not 1 to maxInputs: by 3
 --     head        else, it is shorter than its own head: by 1
 --     count       else, N is not 1 to maxSteps: by 4
---     widths      else, a word length breaks its rule: by 5
+--     widths      else, a width byte breaks its rule: by 5
 --     size        else, the length is not that of the head and 9N: by 6
 --     operation   else, step k is the first that breaks a rule, and it is that of its operation byte: by 7, at step k
 --     argument    else, step k is the first that breaks a rule, and it is that of its argument: by 8, at step k

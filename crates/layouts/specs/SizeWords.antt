@@ -1,10 +1,10 @@
--- Sizes as words: m, d, n1 to the last word length.
+-- Sizes as words: m, d, n1 to the last width byte.
 --   sizeWords z   the words of the sizes z
 --   sizeBytes w   each of the first words, as many as sizes have, fits a byte
 --   sizesFit w    the words are sizes: there are sizesLength of them, and each fits a byte
 --   sizesFrom w   the sizes that the first words give
 --   SizeBytes w   sizeBytes with no test in it, and there are words enough
---   ByteSizes z   sizes that the struct can hold: m, d and each of the maxInputs word lengths fit a byte
+--   ByteSizes z   sizes that the struct can hold: m, d and each of the maxInputs width bytes fit a byte
 use mathlib.Core.Bool.{Bool, _&&_}
 use mathlib.Core.List.{List, _∷_}
 use mathlib.Core.Path.{_≡_}

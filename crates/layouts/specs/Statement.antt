@@ -1,7 +1,7 @@
 -- What is claimed of the layouts: where each word stands, that reading words undoes writing them, and that writing undoes reading. Each
 -- statement is proved in proofs/, under the same name with a small first letter.
 --   Offsets                 the offsets and the lengths of the C header as numbers, and what stands there:
---     refusal, sizes, session, answer    of any refusal, and of sizes, sessions and answers with maxInputs word lengths and values
+--     refusal, sizes, session, answer    of any refusal, and of sizes, sessions and answers with maxInputs width bytes and values
 --   RefusalPlaces, SizesPlaces, SessionPlaces, AnswerPlaces
 --                           what stands there, field by field: `count` is the number of words, the others are named as what stands there
 --   WordsOfMarksAndKinds    the words of the marks and of the kinds as numbers
@@ -72,7 +72,7 @@ pub record RefusalPlaces (r : Refusal) : Type 0 where
   pub file : wordAt (refusalWords r) atFile ≡ r .file
   pub step : wordAt (refusalWords r) atStep ≡ r .step
 
--- the sizes have a word length for each input that a file may have
+-- the sizes have a width byte for each input that a file may have
 abbrev pub WholeWidths : Sizes → Type 0
 WholeWidths z = length (z .widths) ≡ maxInputs
 

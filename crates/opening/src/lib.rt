@@ -11,7 +11,7 @@ use sizes::refused_by;
 ghost use mathlib.Core.Path.{_≡_};
 ghost use Rattle.sessions.specs.Session.{sameSizes, pairRefusal, noSession, opened};
 
-// Whether m, d and all word lengths are the same.
+// Whether m, d and all width bytes are the same.
 pub fn same_sizes(z: Sizes, w: Sizes) -> bool
     ensures { λ r. ⌜ r ≡ sameSizes z w ⌝ }
 {

@@ -1,4 +1,4 @@
-// The calls on sessions, in words. A session is words: m, d, the word lengths, position and mark. Where it has
+// The calls on sessions, in words. A session is words: m, d, the width bytes, position and mark. Where it has
 // another length, a size does not fit a byte or the mark is not 0 to 2, continuing returns 0, with nothing touched.
 // Opening takes any words of that length and overwrites them.
 use answer_words::ANSWER_LENGTH;

@@ -1,4 +1,4 @@
-// Sizes as words, read and written: m, d and the word lengths, each of which has to fit a byte.
+// Sizes as words, read and written: m, d and the width bytes, each of which has to fit a byte.
 use sizes::INPUTS;
 use sizes::Sizes;
 ghost use mathlib.Core.Path.{_≡_};
@@ -14,10 +14,10 @@ ghost use Rattle.layouts.specs.SizeWords.{
 };
 ghost use Rattle.slices.specs.Slices.{overwritten};
 
-// Where the word lengths stand.
+// Where the width bytes stand.
 const AT_WIDTHS: usize = 2;
 
-// The words of sizes: m, d and the word lengths.
+// The words of sizes: m, d and the width bytes.
 pub const SIZES_LENGTH: usize = AT_WIDTHS + INPUTS;
 
 // Whether each of the first words, as many as sizes have, fits a byte.

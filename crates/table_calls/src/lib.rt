@@ -1,4 +1,4 @@
-// The calls on difference tables, in words. Sizes are words: m, d and the word lengths. Where they have another
+// The calls on difference tables, in words. Sizes are words: m, d and the width bytes. Where they have another
 // length, or a word does not fit a byte, the call returns 0, with nothing touched.
 use file_tables::make_table;
 use refusal_words::REFUSAL_LENGTH;

@@ -16,8 +16,8 @@ sizes-read :
 unfolding sizesOf
 sizes-read s widths m f e = λ i. record { m = f i; d = getD s 1 0; widths = e i }
 
-word-lengths-requires : tie.Need-word-lengths-requires
-word-lengths-requires c κs = search needs
+widths-of-requires : tie.Need-widths-of-requires
+widths-of-requires c κs = search needs
 
 output-length-requires : tie.Need-output-length-requires
 output-length-requires c κs = head-short _ (c .before .before .pre)
@@ -30,7 +30,7 @@ shared-slice-read-t6 : tie.Need-shared-slice-read-t6
 shared-slice-read-t6 c = search needs
 
 returns : tie.Need-returns
-returns c = sizes-read _ _ _ (c .before .output-length .ensures) (c .before .before .word-lengths .ensures)
+returns c = sizes-read _ _ _ (c .before .output-length .ensures) (c .before .before .widths-of .ensures)
 
 pub read-sizes-spec : {M : Type 1} → statement M
-read-sizes-spec = tie.close (tie.spec word-lengths-requires output-length-requires cast-t4 shared-slice-read-t6 returns)
+read-sizes-spec = tie.close (tie.spec widths-of-requires output-length-requires cast-t4 shared-slice-read-t6 returns)

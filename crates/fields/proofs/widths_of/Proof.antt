@@ -1,4 +1,4 @@
--- `fields::word_lengths` meets its contract: the head is short or long. Assumes nothing.
+-- `fields::widths_of` meets its contract: the head is short or long. Assumes nothing.
 use mathlib.Core.List.{List}
 use mathlib.Core.Path.{_≡_, sym, _∙_, ap}
 use Prim.Native.Nat.{ℕ}
@@ -10,8 +10,8 @@ use lib.ListN.{take, drop}
 use Rattle.sizes.specs.Padded.{padded}
 use Rattle.fields.specs.File.{shortInputs, widthBytes, widthsFrom, sizesOf}
 use Rattle.fields.proofs.Heads.{widths-long, head-short}
-use Rattle.fields.proofs.word_lengths.Statement.{statement}
-use Rattle.fields.proofs.word_lengths.Tie as tie
+use Rattle.fields.proofs.widths_of.Statement.{statement}
+use Rattle.fields.proofs.widths_of.Tie as tie
 
 -- the word lengths, given how many of them the head has
 widths-read :
@@ -42,6 +42,6 @@ read-widths-requires-2 c κs =
 returns-2 : tie.Need-returns-2
 returns-2 c = widths-read _ _ _ (widths-long _ (λ e. c .before .if1 .left (found (c .before .before) ∙ e))) (c .read-widths2 .ensures)
 
-pub word-lengths-spec : {M : Type 1} → statement M
-word-lengths-spec =
+pub widths-of-spec : {M : Type 1} → statement M
+widths-of-spec =
     tie.close (tie.spec input-count-requires width-bytes-requires read-widths-requires returns read-widths-requires-2 returns-2)

@@ -587,7 +587,7 @@ mod tests {
     #[test]
     fn other_marks_move_the_vectors_alone() {
         let mut random = Random::new(0x516);
-        for round in 0..128 {
+        for round in 0..64 {
             let sizes = twins::small_sizes(&mut random, 1 + round % 64, 80);
             let path = twins::path(&mut random, &sizes);
             let table = difference_table(&path).cells;

@@ -276,7 +276,7 @@ mod tests {
                 if kind.equivalent() {
                     assert_eq!(found.verdict, Verdict::Equivalent, "{kind:?}");
                 }
-                if sizes.bits() <= 8 {
+                if sizes.bits() <= 6 {
                     let exhaustive = compare_paths(full_width(&sizes), &first, &second);
                     assert_eq!(exhaustive.verdict, found.verdict, "{kind:?}");
                 }

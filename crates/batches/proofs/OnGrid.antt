@@ -7,19 +7,16 @@ use Prim.Native.Nat.{ℕ, _+_, _%_, _^_, _≤_, _<_}
 use native.Mathlib.Decide.{decLt}
 use native.Mathlib.Nat.{mod-eq-of-lt}
 use native.Mathlib.Omega.{arith}
-use lib.IntN.{pos}
-use lib.ListN.{length, getD, take, length-map}
+use lib.ListN.{length, getD, take}
 use Rattle.file.specs.Accepted.{Accepted}
 use Rattle.fields.specs.File.{sizesOf}
-use Rattle.grid.specs.Grid.{axesOf, lowsOf, gridSize}
-use Rattle.grid.proofs.Grids.{length-lows}
+use Rattle.grid.specs.Grid.{axesOf, gridSize}
 use Rattle.lanes.specs.Lanes.{LanesOnGrid}
-use Rattle.lists.proofs.Lists.{map-entry}
 use Rattle.places.specs.Places.{size, digitsAt}
 use Rattle.places.proofs.Places.{oneToOne, length-digits}
 use Rattle.plan.specs.Plan.{Planned}
 use Rattle.plan.specs.declared.Plan.{Plan}
-use Rattle.plan.proofs.Axes.{length-file-axes, file-grid-least}
+use Rattle.plan.proofs.Axes.{length-file-axes, length-file-lows, low-word-small, file-grid-least}
 use Rattle.plan.proofs.Numbers.{grid, lowest}
 use Rattle.sizes.specs.Padded.{padded}
 use Rattle.sizes.specs.Sizes.{maxInputs}
@@ -27,22 +24,16 @@ use Rattle.sizes.proofs.Padded.{length-padded, padded-entry}
 use Rattle.vectors.specs.Vectors.{lowWords, raised, heldAt, GridWord}
 use Rattle.vectors.proofs.Digits.{below-at}
 use Rattle.vectors.proofs.Raised.{raised-entry}
-use Rattle.words.specs.Words.{word}
-use Rattle.words.proofs.Congruence.{word-most}
 use Rattle.batches.specs.Batch.{LanesSet, Lowest, DeadOnGrid}
 
 module _ (s : List ℕ) (a : Accepted s) where
-  length-low-words : length (lowWords (sizesOf s)) ≡ sizesOf s .d
-  unfolding lowWords
-  length-low-words = rw length-map (length-lows (sizesOf s) ∙ length-file-axes s a)
-
   -- an entry of the words at a place, past the last axis too
   pub held-entry :
       (us : List ℕ) (p i : ℕ) → length us ≤ maxInputs → i < maxInputs →
       getD (heldAt (padded (lowWords (sizesOf s))) us p) i 0 ≡ (getD (lowWords (sizesOf s)) i 0 + getD (digitsAt us p) i 0) % 2 ^ 64
   unfolding heldAt
   held-entry us p i few h =
-      let lows = length-padded (lowWords (sizesOf s)) (omega (arith, length-low-words, a .inputsHigh)) in
+      let lows = length-file-lows s a in
       let long = length-padded (digitsAt us p) (omega (arith, length-digits us p)) in
       raised-entry (padded (lowWords (sizesOf s))) (padded (digitsAt us p)) i (lows ∙ sym long) (omega (arith, lows))
       ∙ ap (λ n. (n + getD (padded (digitsAt us p)) i 0) % 2 ^ 64) (padded-entry (lowWords (sizesOf s)) i)
@@ -72,17 +63,12 @@ module _ (s : List ℕ) (a : Accepted s) where
       }
 
   -- a lowest value
-  pub low-word-small : (i : ℕ) → i < sizesOf s .d → getD (lowWords (sizesOf s)) i 0 < 2 ^ 64
-  unfolding lowWords
-  low-word-small i g =
-      subst (λ n. n < 2 ^ 64) (sym (map-entry word (lowsOf (sizesOf s)) i (pos 0) 0 (omega (arith, length-lows (sizesOf s), length-file-axes s a)))) (word-most _)
-
   pub low-on-grid : (i : ℕ) → i < sizesOf s .d → (w : ℕ) → w ≡ getD (padded (lowWords (sizesOf s))) i 0 → GridWord (sizesOf s) i w
   low-on-grid i g w e =
       record {
         count = 0;
         below = file-axis-least i g;
-        above = e ∙ padded-entry (lowWords (sizesOf s)) i ∙ sym (ap (λ n. n % 2 ^ 64) none ∙ mod-eq-of-lt (low-word-small i g));
+        above = e ∙ padded-entry (lowWords (sizesOf s)) i ∙ sym (ap (λ n. n % 2 ^ 64) none ∙ mod-eq-of-lt (low-word-small s a i));
       }
     where
       none : getD (lowWords (sizesOf s)) i 0 + 0 ≡ getD (lowWords (sizesOf s)) i 0

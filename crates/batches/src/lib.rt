@@ -46,7 +46,7 @@ pub fn set_lanes(
     set_column(inputs, 0, v, w);
     let mut l = 1;
     while l < live {
-        advance(axes, lows, d, &mut v);
+        advance(&axes, &lows, d, &mut v);
         set_column(inputs, l, v, w);
         l += 1;
     }

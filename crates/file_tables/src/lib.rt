@@ -11,8 +11,8 @@ use sizes::Sizes;
 use sizes::refused_by;
 use slices::clear;
 use transform::transform_front;
+use vectors::advance;
 use vectors::lowest_words;
-use vectors::next_vector;
 use vectors::vector_at;
 ghost use Rattle.file_tables.specs.FileTables.{TableMade};
 ghost use Rattle.file_tables.specs.Filling.{Filling, OutputsFilled, TableFilling, TableFilled};
@@ -41,7 +41,7 @@ fn fill_outputs(
     while p < count {
         let y = output_at(file, n, &v, scratch);
         table[p] = y;
-        v = next_vector(axes, lows, d, v);
+        advance(&axes, &lows, d, &mut v);
         p += 1;
     }
 }

@@ -4,17 +4,20 @@ use mathlib.Core.List.{List}
 use mathlib.Core.Path.{_≡_, refl, sym, _∙_, ap}
 use Prim.Native.Nat.{ℕ, _^_, _≤_, _<_}
 use native.Mathlib.Nat.{min-le-right}
+use native.Mathlib.Omega.{arith}
 use lib.ListN.{length, take, length-take}
 use Rattle.fields.specs.File.{sizesOf, stepCount}
 use Rattle.grid.specs.Grid.{axesOf, gridSize, gridOf}
 use Rattle.grid.proofs.Grids.{grid-axes}
 use Rattle.places.specs.Places.{size}
 use Rattle.sizes.specs.Padded.{padded}
-use Rattle.vectors.specs.Vectors.{lowWords}
+use Rattle.sizes.specs.Sizes.{maxInputs}
+use Rattle.sizes.proofs.Padded.{length-padded}
+use Rattle.vectors.specs.Vectors.{lowWords, Arrays}
 use Rattle.plan.specs.Plan.{planOf, Planned}
 use Rattle.plan.specs.declared.Plan.{Plan}
 use Rattle.fields.proofs.Heads.{length-widths}
-use Rattle.plan.proofs.Axes.{length-file-axes, file-grid-fits}
+use Rattle.plan.proofs.Axes.{length-file-axes, length-file-lows, file-grid-fits, file-arrays}
 
 module _ {s₁ s₂ : List ℕ} {p : Plan} (k : Planned s₁ s₂ p) where
   pub count₁ : p .n1 ≡ stepCount s₁
@@ -53,3 +56,15 @@ module _ {s₁ s₂ : List ℕ} {p : Plan} (k : Planned s₁ s₂ p) where
   pub places-fit : size (take (p .d) (p .axes)) < 2 ^ 64
   unfolding gridSize
   places-fit = rw grid (file-grid-fits s₁ (k .files .sound₁))
+
+  pub arrays : Arrays (p .lows) (take (p .d) (p .axes))
+  arrays = rw (lowest, grid) (file-arrays s₁ (k .files .sound₁))
+
+  pub whole-axes : length (p .axes) ≡ maxInputs
+  unfolding planOf gridOf
+  whole-axes =
+      ap (λ (q : Plan). length (q .axes)) (k .plan)
+      ∙ length-padded (axesOf (sizesOf s₁)) (omega (arith, length-file-axes s₁ (k .files .sound₁), k .files .sound₁ .inputsHigh))
+
+  pub whole-lows : length (p .lows) ≡ maxInputs
+  whole-lows = ap length lowest ∙ length-file-lows s₁ (k .files .sound₁)

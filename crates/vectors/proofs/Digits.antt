@@ -15,7 +15,7 @@ use Rattle.places.proofs.Places.{oneToOne}
 use Rattle.sizes.specs.Sizes.{maxInputs}
 use Rattle.sizes.specs.Padded.{padded}
 use Rattle.sizes.proofs.Padded.{length-padded, padded-entry}
-use Rattle.vectors.specs.Vectors.{raised, heldAt}
+use Rattle.vectors.specs.Vectors.{raised, heldAt, Arrays}
 use Rattle.vectors.proofs.Raised.{raised-entry, raised-set, raised-zeros, raised-only}
 
 -- a value of a vector below the axes is below its axis
@@ -72,14 +72,8 @@ pub record Digits (lows us v x : List ℕ) : Type 0 where
   pub shape : v ≡ raised lows (padded x)
   pub below : Below us x
 
--- lows are words, one for each input that a file may have, and there are no more axes
-pub record Lows (lows us : List ℕ) : Type 0 where
-  pub each : length lows ≡ maxInputs
-  pub words : (i : ℕ) → getD lows i 0 < 2 ^ 64
-  pub few : length us ≤ maxInputs
-
 pub zeros :
-    (lows us x : List ℕ) (n : ℕ) → Lows lows us → length us ≡ n → Below us x →
+    (lows us x : List ℕ) (n : ℕ) → Arrays lows us → length us ≡ n → Below us x →
     Digits lows us lows (replicate n 0) × (placeOf us (replicate n 0) ≡ 0)
 zeros lows us x n k l b =
     let e : n + (maxInputs - n) ≡ length lows = omega (arith, k .each, k .few) in (
@@ -90,7 +84,7 @@ zeros lows us x n k l b =
       rw (← l) (place-zeros us),
     )
 
-module _ {lows us v x : List ℕ} (k : Lows lows us) (g : Digits lows us v x) where
+module _ {lows us v x : List ℕ} (k : Arrays lows us) (g : Digits lows us v x) where
   long : length lows ≡ length (padded x)
   long = k .each ∙ sym (length-padded x (omega (arith, length-below us x (g .below), k .few)))
 
@@ -119,10 +113,10 @@ module _ {lows us v x : List ℕ} (k : Lows lows us) (g : Digits lows us v x) wh
 
 -- two places that hold the same are one
 pub same-place :
-    (lows us : List ℕ) → Lows lows us → ((i : ℕ) → getD us i 0 ≤ 2 ^ 64) → (p q : ℕ) → p < size us → q < size us →
+    (lows us : List ℕ) → Arrays lows us → (p q : ℕ) → p < size us → q < size us →
     heldAt lows us p ≡ heldAt lows us q → p ≡ q
 unfolding heldAt
-same-place lows us k most p q hp hq e = sym (oneToOne us .placed p hp) ∙ ap (placeOf us) same ∙ oneToOne us .placed q hq
+same-place lows us k p q hp hq e = sym (oneToOne us .placed p hp) ∙ ap (placeOf us) same ∙ oneToOne us .placed q hq
   where
     long-at : (r : ℕ) → r < size us → length (digitsAt us r) ≡ length us
     long-at r h = length-below us (digitsAt us r) (oneToOne us .below r h)
@@ -133,7 +127,7 @@ same-place lows us k most p q hp hq e = sym (oneToOne us .placed p hp) ∙ ap (p
     small : (r : ℕ) → r < size us → (i : ℕ) → getD (padded (digitsAt us r)) i 0 < 2 ^ 64
     small r h i =
         elim (decLt i (length us)) [
-          | yes l ↦ rw (padded-entry (digitsAt us r) i) (omega (arith, below-at us (digitsAt us r) i (oneToOne us .below r h) l, most i))
+          | yes l ↦ rw (padded-entry (digitsAt us r) i) (omega (arith, below-at us (digitsAt us r) i (oneToOne us .below r h) l, k .axes i))
           | no n ↦ rw (padded-entry (digitsAt us r) i, List·getD-eq-default (digitsAt us r) 0 {n = i} (omega (arith, long-at r h))) (pow-pos 64)
         ]
 

@@ -3,10 +3,13 @@
 use mathlib.Core.Path.{_≡_, refl, sym, _∙_, ap, ap₂}
 use mathlib.Core.List.{List, [], _∷_, _++_, map}
 use Prim.Native.Nat.{ℕ, zero, suc, _+_, _-_, _%_, _^_, _≤_, _<_}
+use native.Mathlib.Decide.{decLt}
 use native.Mathlib.Nat.{add-mod, mod-eq-of-lt}
 use native.Mathlib.Omega.{arith}
 use lib.IntN.{ℤ, pos, _+ℤ_}
-use lib.ListN.{length, getD, set, replicate, length-map}
+use lib.ListN.{length, getD, set, take, replicate, length-map, length-take, List·getD-eq-default}
+use lib.Pow.{pow-pos}
+use lib.Seq.{getD-take}
 use Rattle.integers.proofs.Remainder.{remainder-pos}
 use Rattle.places.specs.Places.{digitsAt}
 use Rattle.places.specs.Vectors.{counted, vectorAt}
@@ -15,7 +18,7 @@ use Rattle.sizes.specs.Padded.{padded}
 use Rattle.sizes.specs.Sizes.{maxInputs}
 use Rattle.words.specs.Words.{word}
 use Rattle.words.proofs.Congruence.{word-add, word-pos, word-most}
-use Rattle.vectors.specs.Vectors.{raised, heldAt}
+use Rattle.vectors.specs.Vectors.{raised, heldAt, Arrays}
 
 pub length-raised : (lows ts : List ℕ) → length lows ≡ length ts → length (raised lows ts) ≡ length lows
 unfolding raised
@@ -105,3 +108,18 @@ held-integers los us p e =
     ∙ ap₂ (λ a b. a ++ b) (raised-words los ts l) (zeros-raised (maxInputs - length (map word los)))
     ∙ ap (λ k. map word (counted los ts) ++ replicate (maxInputs - k) 0)
     (length-map los word ∙ sym (length-counted los ts l) ∙ sym (length-map (counted los ts) word))
+
+-- the entries of a part of a list of words are words
+pub take-small : (l : List ℕ) (n : ℕ) → ((j : ℕ) → getD l j 0 < 2 ^ 64) → (j : ℕ) → getD (take n l) j 0 < 2 ^ 64
+take-small l n h j =
+    elim (decLt j n) [
+      | yes k ↦ rw (getD-take n l j 0 k) (h j)
+      | no k ↦ rw (List·getD-eq-default (take n l) 0 {n = j} (rw length-take (omega arith))) (pow-pos 64)
+    ]
+
+-- what the machine holds of lows and of the first d axes
+pub arrays :
+    (lows axes : List ℕ) (d : ℕ) → length lows ≡ maxInputs → length axes ≡ maxInputs → d ≤ maxInputs → ((j : ℕ) → getD lows j 0 < 2 ^ 64) →
+    ((j : ℕ) → getD axes j 0 < 2 ^ 64) → Arrays lows (take d axes)
+arrays lows axes d l a h words small =
+    record { each = l; words = words; few = rw length-take (omega arith); axes = take-small axes d small }

@@ -6,6 +6,7 @@
 --   HoldsVector lows us p r what finding a vector promises:
 --       words               r holds that vector
 --       integers            whatever the lowest values with these words are, r holds the words of the integers at place p, and 0 past the last
+--   Arrays lows us          lows and the axes us as the machine holds them: each is a word, and there is a lowest word for each input that a file may have
 --   Placed lows us v        v holds one of the vectors of the grid
 --   GridWord z i w          the word w is that of one of the values that the grid has of input i
 --   GridWords z p           the vector at place p of the grid of the sizes z: its words are those of the integers, and give these back
@@ -13,7 +14,7 @@
 --   Next lows us v r        where v holds the vector at a place that is not the last, r holds the one at the next place
 use mathlib.Core.Path.{_≡_}
 use mathlib.Core.List.{List, [], _∷_, map}
-use Prim.Native.Nat.{ℕ, _+_, _%_, _^_, _<_}
+use Prim.Native.Nat.{ℕ, _+_, _%_, _^_, _≤_, _<_}
 use lib.IntN.{ℤ}
 use lib.ListN.{length, getD}
 use Rattle.grid.specs.Grid.{axesOf, lowsOf, gridSize, gridVector}
@@ -40,6 +41,12 @@ pub record HoldsVector (lows us : List ℕ) (p : ℕ) (r : List ℕ) : Type 0 wh
   pub words : r ≡ heldAt lows us p
   pub integers :
       (los : List ℤ) → length los ≡ length us → lows ≡ padded (map word los) → r ≡ padded (map word (vectorAt los us p))
+
+pub record Arrays (lows us : List ℕ) : Type 0 where
+  pub each : length lows ≡ maxInputs
+  pub words : (i : ℕ) → getD lows i 0 < 2 ^ 64
+  pub few : length us ≤ maxInputs
+  pub axes : (i : ℕ) → getD us i 0 < 2 ^ 64
 
 pub record Placed (lows us v : List ℕ) : Type 0 where
   pub place : ℕ

@@ -11,7 +11,7 @@ ghost use lib.ListN.{length, take};
 ghost use Rattle.places.specs.Places.{size};
 ghost use Rattle.sizes.specs.Padded.{padded};
 ghost use Rattle.sizes.specs.Sizes.{maxInputs, Ruled};
-ghost use Rattle.vectors.specs.Vectors.{lowWords, HoldsVector, Placed, Next};
+ghost use Rattle.vectors.specs.Vectors.{lowWords, HoldsVector, Arrays, Placed, Next};
 
 // The words of the lowest values of the inputs, with 0 past the last input.
 pub fn lowest_words(z: Sizes) -> [u64; INPUTS]
@@ -52,10 +52,13 @@ pub fn vector_at(axes: [u64; INPUTS], lows: [u64; INPUTS], d: usize, p: u64) -> 
 // v, one of the grid's vectors, becomes the one at the next place: from the last input backwards, an input at its last
 // value goes to its lowest, and the first that isn't goes up by 1. Where v is the last vector of all, nothing is
 // promised of what it becomes.
-pub fn advance(axes: [u64; INPUTS], lows: [u64; INPUTS], d: usize, v: &mut [u64])
-    requires { ⌜ (d ≤ maxInputs) × (d ≤ length (now v)) ⌝ }
-    requires { ⌜ Placed lows (take d axes) (now v) ⌝ }
-    ensures { λ _. ⌜ Next lows (take d axes) (now (v .entry)) (now (v .exit)) ⌝ }
+pub fn advance(axes: &[u64], lows: &[u64], d: usize, v: &mut [u64])
+    requires { ⌜ Arrays (now lows) (take d (now axes)) ⌝ }
+    requires { ⌜ (d ≤ length (now axes)) × (d ≤ length (now v)) ⌝ }
+    requires { ⌜ Placed (now lows) (take d (now axes)) (now v) ⌝ }
+    ensures { λ _. ⌜
+        Next (now (lows .entry)) (take d (now (axes .entry))) (now (v .entry)) (now (v .exit))
+        ⌝ }
 {
     let mut i = d;
     while 0 < i {
@@ -68,21 +71,4 @@ pub fn advance(axes: [u64; INPUTS], lows: [u64; INPUTS], d: usize, v: &mut [u64]
         }
         v[i] = low;
     }
-}
-
-// The vector one place after v, one of the grid's vectors. Where v is the last vector of all, nothing is promised of
-// the answer.
-pub fn next_vector(
-    axes: [u64; INPUTS],
-    lows: [u64; INPUTS],
-    d: usize,
-    v: [u64; INPUTS],
-) -> [u64; INPUTS]
-    requires { ⌜ d ≤ maxInputs ⌝ }
-    requires { ⌜ Placed lows (take d axes) v ⌝ }
-    ensures { λ r. ⌜ Next lows (take d axes) v r ⌝ }
-{
-    let mut next = v;
-    advance(axes, lows, d, &mut next);
-    next
 }

@@ -2,7 +2,7 @@
 use evaluate::output_at;
 use plan::Plan;
 use plan::Span;
-use vectors::next_vector;
+use vectors::advance;
 use vectors::vector_at;
 ghost use Prim.Native.Nat.{max};
 ghost use Rattle.evaluate.specs.Run.{Ready};
@@ -50,7 +50,7 @@ pub fn by_places(file1: &[u8], file2: &[u8], plan: Plan, span: Span, scratch: &m
         if differ_at(file1, plan.n1, file2, plan.n2, &v, scratch) {
             return p;
         }
-        v = next_vector(axes, lows, plan.d, v);
+        advance(&axes, &lows, plan.d, &mut v);
         p += 1;
     }
     p

@@ -4,15 +4,18 @@
 use mathlib.Core.Path.{_≡_, refl, sym, _∙_, ap}
 use mathlib.Core.Logic.{⊎-elim}
 use mathlib.Core.List.{List}
-use Prim.Native.Nat.{ℕ, _+_, _-_, _≤_, _<_}
+use Prim.Native.Nat.{ℕ, _+_, _-_, _^_, _≤_, _<_}
 use native.Mathlib.Nat.{eq-or-lt-of-le}
 use native.Mathlib.Omega.{arith}
 use borrow.Author.Needs.{needs}
+use mir.Syntax.{w64}
+use mir.Val.{Fits}
 use denote.Ref.{now}
 use lib.ListN.{length, getD, take}
 use Rattle.rows.specs.Rows.{lane}
 use Rattle.sizes.specs.Sizes.{maxInputs}
 use Rattle.vectors.specs.Vectors.{heldAt}
+use Rattle.vectors.proofs.Raised.{arrays}
 use Rattle.batches.proofs.set_lanes.Statement.{statement}
 use Rattle.batches.proofs.set_lanes.Tie as tie
 
@@ -54,10 +57,10 @@ module _ (w : ℕ) (lows us : List ℕ) (p live : ℕ) (inputs₀ inputs' v : Li
   start inputs h e here others after = more inputs 0 p h e (omega arith) here others (λ i k hi hk. absurd (omega arith)) after
 
 abbrev Inv-loop : tie.InvT-loop
-Inv-loop inputs₀ axes lows d p live w v₀ l₀ inputs v l = Columns w lows (take d axes) p live inputs₀ inputs v l
+Inv-loop inputs₀ d p live w axes lows v₀ l₀ inputs v l = Columns w lows (take d axes) p live inputs₀ inputs v l
 
 abbrev μ-loop : tie.MeasureT-loop
-μ-loop inputs₀ axes lows d p live w v₀ l₀ inputs v l = live - l
+μ-loop inputs₀ d p live w axes lows v₀ l₀ inputs v l = live - l
 
 -- the entry, from where the loop begins
 abbrev opened : tie.At-loop Inv-loop μ-loop → tie.Start Inv-loop μ-loop
@@ -80,26 +83,37 @@ loop-holds c =
     (c .before .before .before .before .vector-at .ensures .words) (set .set) (set .others) (λ i k hl hk. refl)
 
 slice-aggregate-advance : tie.Need-slice-aggregate-advance Inv-loop μ-loop
-slice-aggregate-advance c = sym (c .before .before .loop .inv .whole)
+slice-aggregate-advance c = search needs
+
+slice-aggregate-advance-2 : tie.Need-slice-aggregate-advance-2 Inv-loop μ-loop
+slice-aggregate-advance-2 c = search needs
+
+slice-aggregate-advance-3 : tie.Need-slice-aggregate-advance-3 Inv-loop μ-loop
+slice-aggregate-advance-3 c = sym (c .before .before .before .before .loop .inv .whole)
 
 advance-requires : tie.Need-advance-requires Inv-loop μ-loop
 advance-requires c κs =
-    let h = c .before .before in
-    let entry = opened h in
-    let q = entry .pre in
+    let h = c .before .before .before .before in
+    let e = opened h in
+    let q = e .pre in
     let k = h .loop .inv in
-    let p = entry .args .p in (
-      (q .0, omega (arith, q .0, k .whole)),
-      record { place = p + (h .loop .l - 1); inside = omega (arith, q .1 .inside, k .within, k .some, c .before .loop-test .taken); shape = k .vector },
+    let p = e .args .p in
+    let lows : (i : ℕ) → getD (e .args .t3) i 0 < 2 ^ 64 = λ i. (let f : Fits w64 (getD (e .args .t3) i 0) = search needs in f .fits) in
+    let axes : (i : ℕ) → getD (e .args .t2) i 0 < 2 ^ 64 = λ i. (let f : Fits w64 (getD (e .args .t2) i 0) = search needs in f .fits) in (
+      arrays _ _ _ (search needs) (search needs) (q .0) lows axes,
+      (
+        (omega (arith, q .0), omega (arith, q .0, k .whole)),
+        record { place = p + (h .loop .l - 1); inside = omega (arith, q .1 .inside, k .within, k .some, c .before .before .before .loop-test .taken); shape = k .vector },
+      ),
     )
 
 set-column-requires-2 : tie.Need-set-column-requires-2 Inv-loop μ-loop
 set-column-requires-2 c κs =
-    let h = c .before .before .before .before .before in
+    let h = c .before .before .before .before .before .before .before in
     let entry = opened h in
     let q = entry .pre in
     let k = h .loop .inv in (
-      omega (arith, q .1 .few, c .before .before .before .before .loop-test .taken),
+      omega (arith, q .1 .few, c .before .before .before .before .before .before .loop-test .taken),
       omega (arith, q .1 .room, k .long, h .before .before .before .set-column .kept .0),
     )
 
@@ -113,12 +127,12 @@ loop-again : tie.Need-loop-again Inv-loop μ-loop
 loop-again c =
     let set = c .before .before .set-column2 in
     let arg = c .before .before .before in
-    let h = arg .before .before .before .before .before in
+    let h = arg .before .before .before .before .before .before .before in
     let moved = arg .before .before .advance in
     let entry = opened h in
     let q = entry .pre in
     let k = h .loop .inv in
-    let t = arg .before .before .before .before .loop-test .taken in
+    let t = arg .before .before .before .before .before .before .loop-test .taken in
     let p = entry .args .p in
     let l = h .loop .l in
     more _ _ _ _ _ _ _ _ (set .kept .0 ∙ k .long) (q .1 .few) (moved .kept .1 .1 .1 .0 ∙ k .whole) (h .loop .inputs) l (p + (l - 1) + 1) t
@@ -150,6 +164,8 @@ set-lanes-spec =
     set-column-requires
     loop-holds
     slice-aggregate-advance
+    slice-aggregate-advance-2
+    slice-aggregate-advance-3
     advance-requires
     set-column-requires-2
     add-l

@@ -16,6 +16,7 @@ use Rattle.fields.specs.File.{sizesOf}
 use Rattle.grid.specs.Grid.{axesOf, lowsOf, gridSize, gridVector}
 use Rattle.grid.proofs.Grids.{length-lows}
 use Rattle.places.specs.Places.{size}
+use Rattle.plan.proofs.Axes.{file-arrays}
 use Rattle.sizes.specs.Sizes.{maxInputs}
 use Rattle.vectors.specs.Vectors.{lowWords, heldAt, Placed, Next}
 use Rattle.vectors.proofs.Raised.{held-integers}
@@ -92,10 +93,10 @@ module _
           }
 
 abbrev Inv-loop : tie.InvT-loop
-Inv-loop file n axes lows d count scratch₀ table₀ v₀ p₀ scratch table v p = Filled file n axes lows d count scratch₀ table₀ scratch table v p
+Inv-loop file n d count scratch₀ table₀ axes lows v₀ p₀ scratch table v p = Filled file n axes lows d count scratch₀ table₀ scratch table v p
 
 abbrev μ-loop : tie.MeasureT-loop
-μ-loop file n axes lows d count scratch₀ table₀ v₀ p₀ scratch table v p = count - p
+μ-loop file n d count scratch₀ table₀ axes lows v₀ p₀ scratch table v p = count - p
 
 -- the places: the loop's head and its test, from the call that gives the output and from the round's end
 abbrev head : tie.After-slice-known3 Inv-loop μ-loop → tie.At-loop Inv-loop μ-loop
@@ -137,22 +138,35 @@ mul-table c = let k = head c .loop .inv in omega (arith, tested c .loop-test .ta
 slice-write-table : tie.Need-slice-write-table Inv-loop μ-loop
 slice-write-table c = let k = head c .loop .inv in omega (arith, tested c .loop-test .taken, k .written .long, k .asked .tableRoom)
 
-next-vector-requires : tie.Need-next-vector-requires Inv-loop μ-loop
-next-vector-requires c κs =
-    let k = head c .loop .inv in
-    (omega (arith, k .asked .inputs, k .asked .sound .inputsHigh), placed _ _ _ _ _ _ _ _ _ _ _ _ k (tested c .loop-test .taken))
+slice-aggregate-advance : tie.Need-slice-aggregate-advance Inv-loop μ-loop
+slice-aggregate-advance c = search needs
+
+slice-aggregate-advance-2 : tie.Need-slice-aggregate-advance-2 Inv-loop μ-loop
+slice-aggregate-advance-2 c = search needs
+
+slice-aggregate-advance-3 : tie.Need-slice-aggregate-advance-3 Inv-loop μ-loop
+slice-aggregate-advance-3 c = sym (c .before .before .before .before .before .before .before .before .before .loop .inv .full)
+
+advance-requires : tie.Need-advance-requires Inv-loop μ-loop
+advance-requires c κs =
+    let h = c .before .before .before .before .before .before .before .before .before in
+    let k = h .loop .inv in
+    let few : h .before .before .before .before .before .args .d ≤ maxInputs = omega (arith, k .asked .inputs, k .asked .sound .inputsHigh) in (
+      rw (k .asked .lowest, k .asked .grid) (file-arrays _ (k .asked .sound)),
+      ((omega (arith, few), omega (arith, k .full, few)), placed _ _ _ _ _ _ _ _ _ _ _ _ k (c .before .before .before .before .before .before .before .before .loop-test .taken)),
+    )
 
 add-p : tie.Need-add-p Inv-loop μ-loop
-add-p c = omega (arith, tested (c .before) .loop-test .taken)
+add-p c = omega (arith, tested (c .before .before .before .before .before) .loop-test .taken)
 
 loop-less : tie.Need-loop-less Inv-loop μ-loop
-loop-less c = omega (arith, tested (c .before) .loop-test .taken)
+loop-less c = omega (arith, tested (c .before .before .before .before .before) .loop-test .taken)
 
 loop-again : tie.Need-loop-again Inv-loop μ-loop
 loop-again c =
-    let called = c .before .before .before .output-at in
-    more _ _ _ _ _ _ _ _ _ _ _ _ (head (c .before) .loop .inv) (tested (c .before) .loop-test .taken)
-    _ _ _ (called .ensures .output) (called .kept .1 .1 .1 .0) (called .ensures .kept) (search needs) (c .next-vector .ensures)
+    let called = c .before .before .before .before .before .before .before .output-at in
+    more _ _ _ _ _ _ _ _ _ _ _ _ (head (c .before .before .before .before .before) .loop .inv) (tested (c .before .before .before .before .before) .loop-test .taken)
+    _ _ _ (called .ensures .output) (called .kept .1 .1 .1 .0) (called .ensures .kept) (c .before .advance .kept .1 .1 .1 .0 ∙ head (c .before .before .before .before .before) .loop .inv .full) (c .before .advance .ensures)
 
 same-length : tie.Need-same-length Inv-loop μ-loop
 same-length c = c .before .loop .inv .long
@@ -177,7 +191,10 @@ fill-outputs-spec =
     output-at-requires
     mul-table
     slice-write-table
-    next-vector-requires
+    slice-aggregate-advance
+    slice-aggregate-advance-2
+    slice-aggregate-advance-3
+    advance-requires
     add-p
     loop-less
     loop-again

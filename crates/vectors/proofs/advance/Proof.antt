@@ -11,42 +11,32 @@ use lib.Pow.{pow-pos}
 use lib.Seq.{length-take-le, getD-take}
 use Rattle.places.specs.Places.{size, digitsAt, placeOf}
 use Rattle.places.proofs.Places.{oneToOne}
-use Rattle.vectors.specs.Vectors.{heldAt, Placed}
-use Rattle.vectors.proofs.Digits.{Lows, Digits, digit, digit-most, place-set, placed, same-place, size-drop, size-dropped, written}
+use Rattle.sizes.specs.Sizes.{maxInputs}
+use Rattle.vectors.specs.Vectors.{heldAt, Arrays, Placed}
+use Rattle.vectors.proofs.Digits.{Digits, digit, digit-most, place-set, placed, same-place, size-drop, size-dropped, written}
 use borrow.Author.Needs.{needs}
-use mir.Syntax.{w64}
-use mir.Val.{Fits}
+use denote.Ref.{now}
 use Rattle.vectors.proofs.advance.Statement.{statement}
 use Rattle.vectors.proofs.advance.Tie as tie
-
-take-small : (l : List ℕ) (n : ℕ) → ((j : ℕ) → getD l j 0 < 2 ^ 64) → (j : ℕ) → getD (take n l) j 0 < 2 ^ 64
-take-small l n h j =
-    elim (decLt j n) [
-      | yes k ↦ rw (getD-take n l j 0 k) (h j)
-      | no k ↦ rw (List·getD-eq-default (take n l) 0 {n = j} (rw length-take (omega arith))) (pow-pos 64)
-    ]
 
 record Carried (axes lows : List ℕ) (d : ℕ) (v₀ v : List ℕ) (i : ℕ) : Type 0 where
   within : i ≤ d
   long : length (take d axes) ≡ d
-  known : Lows lows (take d axes)
-  most : (j : ℕ) → getD (take d axes) j 0 < 2 ^ 64
+  known : Arrays lows (take d axes)
   first : Placed lows (take d axes) v₀
   vector : List ℕ
   digits : Digits lows (take d axes) v vector
   place : placeOf (take d axes) vector + size (drop i (take d axes)) ≡ first .place + 1
 
 start :
-    (axes lows : List ℕ) (d : ℕ) (v : List ℕ) → length (take d axes) ≡ d → Lows lows (take d axes) → ((j : ℕ) → getD (take d axes) j 0 < 2 ^ 64) →
-    Placed lows (take d axes) v → Carried axes lows d v v d
+    (axes lows : List ℕ) (d : ℕ) (v : List ℕ) → length (take d axes) ≡ d → Arrays lows (take d axes) → Placed lows (take d axes) v → Carried axes lows d v v d
 unfolding heldAt
-start axes lows d v l k m s =
+start axes lows d v l k s =
     let us = take d axes in
     record {
       within = omega arith;
       long = l;
       known = k;
-      most = m;
       first = s;
       vector = digitsAt us (s .place);
       digits = record { shape = s .shape; below = oneToOne us .below (s .place) (s .inside) };
@@ -60,7 +50,7 @@ module _ {axes lows : List ℕ} {d : ℕ} {v₀ v : List ℕ} {i : ℕ} (f : Car
   -- the place is the one that the caller means
   meant : (p : ℕ) → p + 1 < size us → v₀ ≡ heldAt lows us p → f .first .place ≡ p
   meant p h s =
-      same-place lows us (f .known) (λ j. omega (arith, f .most j)) (f .first .place) p (f .first .inside) (omega arith) (sym (f .first .shape) ∙ s)
+      same-place lows us (f .known) (f .first .place) p (f .first .inside) (omega arith) (sym (f .first .shape) ∙ s)
 
   module _ (some : 0 < i) where
     abbrev u : ℕ
@@ -91,7 +81,7 @@ module _ {axes lows : List ℕ} {d : ℕ} {v₀ v : List ℕ} {i : ℕ} (f : Car
       word = omega (arith, e, digit (f .known) (f .digits) (i - 1) inside)
 
       count : r ≡ t + 1
-      count = omega (arith, word, small, q, f .known .words (i - 1), below, axis, f .most (i - 1))
+      count = omega (arith, word, small, q, f .known .words (i - 1), below, axis, f .known .axes (i - 1))
 
     weighed : (a : ℕ) → placeOf us (set (f .vector) (i - 1) a) + t * size (drop i us) ≡ placeOf us (f .vector) + a * size (drop i us)
     weighed a = rw next at (place-set us (f .vector) (i - 1) a (f .digits .below) inside)
@@ -104,7 +94,6 @@ module _ {axes lows : List ℕ} {d : ℕ} {v₀ v : List ℕ} {i : ℕ} (f : Car
           within = omega (arith, f .within);
           long = f .long;
           known = f .known;
-          most = f .most;
           first = f .first;
           vector = set (f .vector) (i - 1) 0;
           digits =
@@ -126,91 +115,92 @@ wrapped :
 wrapped axes lows d v₀ v p f h s = omega (arith, f .place, meant f p h s)
 
 abbrev Inv-loop : tie.InvT-loop
-Inv-loop d v₀ axes lows i₀ v i = (length v ≡ length v₀) × Carried axes lows d v₀ v i
+Inv-loop axes lows d v₀ i₀ v i = (length v ≡ length v₀) × Carried axes lows d v₀ v i
 
 abbrev μ-loop : tie.MeasureT-loop
-μ-loop d v₀ axes lows i₀ v i = i
+μ-loop axes lows d v₀ i₀ v i = i
+
+-- the entry, from the loop's head
+abbrev entry : tie.At-loop Inv-loop μ-loop → tie.Start Inv-loop μ-loop
+entry h = h .before .before .before .before
+
+-- the place of a round lies within all three slices
+index : (h : tie.At-loop Inv-loop μ-loop) → 0 < h .loop .i → h .loop .i - 1 < entry h .args .d
+index h t = omega (arith, h .loop .inv .1 .within)
+
+few : (h : tie.At-loop Inv-loop μ-loop) → 0 < h .loop .i → h .loop .i - 1 < maxInputs
+few h t = omega (arith, index h t, entry h .pre .0 .few, length-take-le (entry h .args .d) (now (entry h .args .axes)) (entry h .pre .1 .0 .0))
+
+in-vector : (h : tie.At-loop Inv-loop μ-loop) → 0 < h .loop .i → h .loop .i - 1 < length (h .loop .v)
+in-vector h t = omega (arith, index h t, h .loop .inv .0, entry h .pre .1 .0 .1)
 
 loop-holds : tie.Need-loop-holds Inv-loop μ-loop
 loop-holds c =
-    let s = c .before in
-    let l = length-take-le (s .args .d) (s .args .t1) (search needs) in
-    let known : Lows (s .args .t2) (take (s .args .d) (s .args .t1)) = record {
-      each = search needs;
-      words = λ i. let f : Fits w64 (getD (s .args .t2) i 0) = search needs in f .fits;
-      few = omega (arith, l, s .pre .0);
-    } in
-    let most = take-small (s .args .t1) (s .args .d) (λ i. let f : Fits w64 (getD (s .args .t1) i 0) = search needs in f .fits) in
-    (refl, start _ _ _ _ l known most (s .pre .1))
+    let s = c .before .before .before in
+    (refl, start _ _ _ _ (length-take-le (s .args .d) (now (s .args .axes)) (s .pre .1 .0 .0)) (s .pre .0) (s .pre .1 .1))
 
 sub-i : tie.Need-sub-i Inv-loop μ-loop
 sub-i c = search needs
 
 mul-low : tie.Need-mul-low Inv-loop μ-loop
-mul-low c = search needs
+mul-low c = omega (arith, few (c .before) (c .loop-test .taken))
 
-array-read-low : tie.Need-array-read-low Inv-loop μ-loop
-array-read-low c = search needs
+shared-slice-read-low : tie.Need-shared-slice-read-low Inv-loop μ-loop
+shared-slice-read-low c = let h = c .before .before in omega (arith, few h (c .before .loop-test .taken), entry h .pre .0 .each)
 
 mul-wrapping-add-u64 : tie.Need-mul-wrapping-add-u64 Inv-loop μ-loop
-mul-wrapping-add-u64 c = omega (arith, c .before .loop .inv .1 .within, c .before .before .before .pre .0)
+mul-wrapping-add-u64 c = omega (arith, few (c .before .before) (c .before .loop-test .taken))
 
 slice-read-wrapping-add-u64 : tie.Need-slice-read-wrapping-add-u64 Inv-loop μ-loop
-slice-read-wrapping-add-u64 c =
-    let h = c .before .before in
-    omega (arith, h .loop .inv .0, h .loop .inv .1 .within, h .before .before .pre .0, c .before .loop-test .taken)
+slice-read-wrapping-add-u64 c = in-vector (c .before .before .before) (c .before .before .loop-test .taken)
 
 wrapping-add-u64-requires : tie.Need-wrapping-add-u64-requires Inv-loop μ-loop
-wrapping-add-u64-requires c κs = search needs
+wrapping-add-u64-requires c κs = tt
 
 wrapping-sub-u64-requires : tie.Need-wrapping-sub-u64-requires Inv-loop μ-loop
-wrapping-sub-u64-requires c κs = search needs
+wrapping-sub-u64-requires c κs = tt
 
 mul-if1 : tie.Need-mul-if1 Inv-loop μ-loop
-mul-if1 c = search needs
+mul-if1 c = omega (arith, few (c .before .before .before .before .before) (c .before .before .before .before .loop-test .taken))
 
-array-read-if1 : tie.Need-array-read-if1 Inv-loop μ-loop
-array-read-if1 c = search needs
+shared-slice-read-if1 : tie.Need-shared-slice-read-if1 Inv-loop μ-loop
+shared-slice-read-if1 c = let h = c .before .before .before .before .before .before in omega (arith, index h (c .before .before .before .before .before .loop-test .taken), entry h .pre .1 .0 .0)
 
 mul-v : tie.Need-mul-v Inv-loop μ-loop
-mul-v c = omega (arith, c .before .before .before .before .before .loop .inv .1 .within, c .before .before .before .before .before .before .before .pre .0)
+mul-v c = omega (arith, few (c .before .before .before .before .before .before .before) (c .before .before .before .before .before .before .loop-test .taken))
 
 slice-write-v : tie.Need-slice-write-v Inv-loop μ-loop
-slice-write-v c =
-    let h = c .before .before .before .before .before in
-    omega (arith, h .loop .inv .0, h .loop .inv .1 .within, h .before .before .pre .0, c .before .before .before .before .loop-test .taken)
+slice-write-v c = in-vector (c .before .before .before .before .before .before .before) (c .before .before .before .before .before .before .loop-test .taken)
 
 same-length : tie.Need-same-length Inv-loop μ-loop
 same-length c = search needs
 
 returns : tie.Need-returns Inv-loop μ-loop
 returns c =
-    let h₀ = c .before .before .before .before .before in
+    let h₀ = c .before .before .before .before .before .before .before in
     let f = h₀ .loop .inv .1 in
-    let some = c .before .before .before .before .loop-test .taken in
-    let add = c .before .before .wrapping-add-u64 in
-    let less = c .before .wrapping-sub-u64 in
+    let some = c .before .before .before .before .before .before .loop-test .taken in
+    let add = c .before .before .before .wrapping-add-u64 in
+    let less = c .before .before .wrapping-sub-u64 in
     λ p h s.
     ap (set (h₀ .loop .v) (h₀ .loop .i - 1)) (word f some _ _ (add .ensures) (less .ok) (less .ensures))
     ∙ up f some (omega (arith, count f some _ _ (add .ensures) (less .ok) (less .ensures), c .if1 .taken)) p h s
 
 mul-v-2 : tie.Need-mul-v-2 Inv-loop μ-loop
-mul-v-2 c = omega (arith, c .before .before .before .before .before .loop .inv .1 .within, c .before .before .before .before .before .before .before .pre .0)
+mul-v-2 c = omega (arith, few (c .before .before .before .before .before .before .before) (c .before .before .before .before .before .before .loop-test .taken))
 
 slice-write-v-2 : tie.Need-slice-write-v-2 Inv-loop μ-loop
-slice-write-v-2 c =
-    let h = c .before .before .before .before .before in
-    omega (arith, h .loop .inv .0, h .loop .inv .1 .within, h .before .before .pre .0, c .before .before .before .before .loop-test .taken)
+slice-write-v-2 c = in-vector (c .before .before .before .before .before .before .before) (c .before .before .before .before .before .before .loop-test .taken)
 
 loop-less : tie.Need-loop-less Inv-loop μ-loop
 loop-less c = search needs
 
 loop-again : tie.Need-loop-again Inv-loop μ-loop
 loop-again c =
-    let inv = c .before .before .before .before .before .loop .inv in
-    let some = c .before .before .before .before .loop-test .taken in
-    let add = c .before .before .wrapping-add-u64 in
-    let less = c .before .wrapping-sub-u64 in
+    let inv = c .before .before .before .before .before .before .before .loop .inv in
+    let some = c .before .before .before .before .before .before .loop-test .taken in
+    let add = c .before .before .before .wrapping-add-u64 in
+    let less = c .before .before .wrapping-sub-u64 in
     (rw length-set (inv .0), carry (inv .1) some (omega (arith, count (inv .1) some _ _ (add .ensures) (less .ok) (less .ensures), c .if1 .left)))
 
 same-length-2 : tie.Need-same-length-2 Inv-loop μ-loop
@@ -230,13 +220,13 @@ advance-spec =
     loop-holds
     sub-i
     mul-low
-    array-read-low
+    shared-slice-read-low
     mul-wrapping-add-u64
     slice-read-wrapping-add-u64
     wrapping-add-u64-requires
     wrapping-sub-u64-requires
     mul-if1
-    array-read-if1
+    shared-slice-read-if1
     mul-v
     slice-write-v
     same-length

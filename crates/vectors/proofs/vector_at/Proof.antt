@@ -13,22 +13,22 @@ use lib.ListN.{length, getD, take, drop, set, replicate, getD-replicate}
 use lib.Seq.{getD-set-other, length-take-le, getD-take}
 use Rattle.places.specs.Places.{size, digitsAt, placeOf}
 use Rattle.places.proofs.Places.{oneToOne}
-use Rattle.vectors.specs.Vectors.{heldAt}
-use Rattle.vectors.proofs.Digits.{Lows, Digits, digit-most, place-set, placed, size-drop, size-dropped, written, zeros}
-use Rattle.vectors.proofs.Raised.{held-integers}
+use Rattle.vectors.specs.Vectors.{heldAt, Arrays}
+use Rattle.vectors.proofs.Digits.{Digits, digit-most, place-set, placed, size-drop, size-dropped, written, zeros}
+use Rattle.vectors.proofs.Raised.{arrays, held-integers}
 use Rattle.vectors.proofs.vector_at.Statement.{statement}
 use Rattle.vectors.proofs.vector_at.Tie as tie
 
 record Decoded (axes lows : List ℕ) (d p : ℕ) (v : List ℕ) (rest i : ℕ) : Type 0 where
   within : i ≤ d
   long : length (take d axes) ≡ d
-  known : Lows lows (take d axes)
+  known : Arrays lows (take d axes)
   vector : List ℕ
   digits : Digits lows (take d axes) v vector
   clear : (j : ℕ) → j < i → getD vector j 0 ≡ 0
   place : placeOf (take d axes) vector + rest * size (drop i (take d axes)) ≡ p
 
-start : (axes lows : List ℕ) (d p : ℕ) → Lows lows (take d axes) → length (take d axes) ≡ d → p < size (take d axes) → Decoded axes lows d p lows p d
+start : (axes lows : List ℕ) (d p : ℕ) → Arrays lows (take d axes) → length (take d axes) ≡ d → p < size (take d axes) → Decoded axes lows d p lows p d
 start axes lows d p k l h =
     let us = take d axes in
     let z = zeros lows us (digitsAt us p) d k l (oneToOne us .below p h) in
@@ -91,7 +91,9 @@ abbrev μ-loop : tie.MeasureT-loop
 loop-holds : tie.Need-loop-holds Inv-loop μ-loop
 loop-holds c =
     let l = length-take-le (c .args .d) (c .args .t1) (search needs) in
-    start _ _ _ _ (record { each = search needs; words = λ i. let f : Fits w64 (getD (c .args .t2) i 0) = search needs in f .fits; few = omega (arith, l, c .pre .0) }) l (c .pre .1)
+    let lows : (i : ℕ) → getD (c .args .t2) i 0 < 2 ^ 64 = λ i. (let f : Fits w64 (getD (c .args .t2) i 0) = search needs in f .fits) in
+    let axes : (i : ℕ) → getD (c .args .t1) i 0 < 2 ^ 64 = λ i. (let f : Fits w64 (getD (c .args .t1) i 0) = search needs in f .fits) in
+    start _ _ _ _ (arrays _ _ _ (search needs) (search needs) (c .pre .0) lows axes) l (c .pre .1)
 
 sub-i : tie.Need-sub-i Inv-loop μ-loop
 sub-i c = search needs

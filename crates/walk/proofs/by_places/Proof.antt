@@ -146,24 +146,36 @@ returns c =
     let e = c .before .before .before .differ-at .ensures in
     record { found = found k (tested (c .before .before .before) .if1 .taken) _ (e .differ) (c .if2 .taken); kept = e .kept ∙ k .kept }
 
-next-vector-requires : tie.Need-next-vector-requires Inv-loop μ-loop
-next-vector-requires c κs =
-    let k = head (c .before .before .before) .loop .inv in
-    let r = k .span in
-    (omega (arith, plan.inputs (r .planned), r .planned .files .sound₁ .inputsHigh), placed k (tested (c .before .before .before) .if1 .taken))
+slice-aggregate-advance : tie.Need-slice-aggregate-advance Inv-loop μ-loop
+slice-aggregate-advance c = sym (plan.whole-axes (head (c .before .before .before .before) .loop .inv .span .planned))
+
+slice-aggregate-advance-2 : tie.Need-slice-aggregate-advance-2 Inv-loop μ-loop
+slice-aggregate-advance-2 c = sym (plan.whole-lows (head (c .before .before .before .before .before) .loop .inv .span .planned))
+
+slice-aggregate-advance-3 : tie.Need-slice-aggregate-advance-3 Inv-loop μ-loop
+slice-aggregate-advance-3 c = sym (head (c .before .before .before .before .before .before) .loop .inv .full)
+
+advance-requires : tie.Need-advance-requires Inv-loop μ-loop
+advance-requires c κs =
+    let d = c .before .before .before .before .before .before in
+    let k = head d .loop .inv in
+    let g = k .span .planned in (
+      plan.arrays g,
+      ((plan.enough g, omega (arith, k .full, plan.inputs g, g .files .sound₁ .inputsHigh)), placed k (tested d .if1 .taken)),
+    )
 
 add-p : tie.Need-add-p Inv-loop μ-loop
-add-p c = omega (arith, tested (c .before .before .before .before) .if1 .taken)
+add-p c = omega (arith, tested (c .before .before .before .before .before .before .before .before) .if1 .taken)
 
 loop-less : tie.Need-loop-less Inv-loop μ-loop
-loop-less c = omega (arith, tested (c .before .before .before .before) .if1 .taken)
+loop-less c = omega (arith, tested (c .before .before .before .before .before .before .before .before) .if1 .taken)
 
 loop-again : tie.Need-loop-again Inv-loop μ-loop
 loop-again c =
-    let d = c .before .before .before .before in
+    let d = c .before .before .before .before .before .before .before .before in
     let called = d .differ-at in
     more (head d .loop .inv) (tested d .if1 .taken)
-    _ (called .ensures .differ) _ _ (c .before .if2 .left) (called .kept .1 .1 .1 .1 .1 .0) (called .ensures .kept) (search needs) (c .next-vector .ensures)
+    _ (called .ensures .differ) _ _ (c .before .before .before .before .before .if2 .left) (called .kept .1 .1 .1 .1 .1 .0) (called .ensures .kept) (c .before .advance .kept .1 .1 .1 .0 ∙ head d .loop .inv .full) (c .before .advance .ensures)
 
 same-length-2 : tie.Need-same-length-2 Inv-loop μ-loop
 same-length-2 c = c .before .before .loop .inv .long
@@ -183,7 +195,10 @@ by-places-spec =
     differ-at-requires
     same-length
     returns
-    next-vector-requires
+    slice-aggregate-advance
+    slice-aggregate-advance-2
+    slice-aggregate-advance-3
+    advance-requires
     add-p
     loop-less
     loop-again

@@ -2,6 +2,7 @@
 -- same name with a small first letter.
 --   ClosedForm      one input: the p-fold difference at x is the alternating sum of document 002, formula (7)
 --   AtLowest        the table on a grid with a lowest value for each axis is that of the function of counts from there
+--   FirstCell       the first cell of such a table is the function at the lowest values, modulo M
 --   SumOfTable      the table of a function, summed, is the function at every place of the grid, modulo M
 --   SumOfDifferences  for every list of outputs below M, summing its differences returns the outputs
 --   DifferencesOfSum  for every table of cells below M, differencing the summed outputs returns the table
@@ -34,6 +35,11 @@ abbrev pub AtLowest : Type 0
 AtLowest =
     (M : ℕ) (los : List ℤ) (us : List ℕ) (F : List ℤ → ℤ) → length los ≡ length us →
     tableAt M los us F ≡ tableOf M us (fromLowest los F)
+
+abbrev pub FirstCell : Type 0
+FirstCell =
+    (M : ℕ) (los : List ℤ) (us : List ℕ) (F : List ℤ → ℤ) → length los ≡ length us → 0 < size us →
+    getD (tableAt M los us F) 0 0 ≡ remainder (F los) M
 
 abbrev pub SumOfTable : Type 0
 SumOfTable =

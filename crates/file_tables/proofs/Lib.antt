@@ -1,4 +1,5 @@
 pub mod Answers
 pub mod Files
+pub mod OnGrid
 pub mod Order
 pub mod Taken

@@ -1,11 +1,12 @@
 -- A width byte and its format: 128 or more is the mark, and what is left of it is the word length.
 -- Assumes nothing.
 use mathlib.Core.Bool.{Bool, true, false, cond}
+use mathlib.Core.Logic.{_↔_}
 use mathlib.Core.Path.{_≡_}
 use Prim.Native.Nat.{ℕ, _+_, _-_, _%_, _≤_, _<_}
 use native.Mathlib.Decide.{decLt}
 use native.Mathlib.Omega.{arith}
-use borrow.Author.Tests.{le-leb, lt-leb}
+use borrow.Author.Tests.{leb-true, le-leb, lt-leb}
 use Rattle.formats.specs.Bytes.{formatOf, byteOf, BytesFormats}
 use Rattle.formats.specs.declared.Format.{Format}
 
@@ -27,6 +28,10 @@ written : (f : Format) → f .length < 128 → formatOf (byteOf f) ≡ f
 unfolding byteOf
 written f h = format-byte (f .signed) (f .length) h
 
+marked : (b : ℕ) → (formatOf b .signed ≡ true) ↔ (128 ≤ b)
+unfolding formatOf
+marked b = (leb-true 128 b, le-leb 128 b)
+
 pub low : (b : ℕ) → b < 256 → formatOf b .length ≡ b % 128
 unfolding formatOf
 low b h = elim (decLt b 128) [ yes l ↦ rw (lt-leb 128 b l) (omega arith) | no l ↦ rw (le-leb 128 b (omega arith)) (omega arith) ]
@@ -37,4 +42,4 @@ unfolding formatOf
 format-most b = elim (decLt b 128) [ yes l ↦ rw (lt-leb 128 b l) (omega arith) | no l ↦ rw (le-leb 128 b (omega arith)) (omega arith) ]
 
 pub bytesFormats : BytesFormats
-bytesFormats = record { read = read; written = written; low = low }
+bytesFormats = record { read = read; written = written; marked = marked; low = low }

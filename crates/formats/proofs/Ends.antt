@@ -1,7 +1,7 @@
 -- The highest value of an input, from the count of its values; and its values by their counts from the lowest.
 -- Assumes nothing.
 use mathlib.Core.Bool.{true, false}
-use mathlib.Core.Path.{_≡_, _∙_, ap, subst}
+use mathlib.Core.Path.{_≡_, refl, _∙_, ap, subst}
 use Prim.Native.Nat.{ℕ, _+_, _-_, _^_, _≤_, _<_}
 use native.Mathlib.Omega.{arith}
 use lib.IntN.{ℤ, pos, negℤ, _+ℤ_, _-ℤ_, +ℤ-idl}
@@ -9,7 +9,7 @@ use lib.Pow.{pow-pos, pow-add}
 use lib.Signed.{_≤ℤ_}
 use Rattle.integers.proofs.Order.{above, at-least, add-≤, ≤-added}
 use Rattle.integers.proofs.Ring.{sub-push, sub-eq}
-use Rattle.formats.specs.Formats.{lowest, highest, Ends, InFormat}
+use Rattle.formats.specs.Formats.{lowest, highest, Ends, EndsInFigures, InFormat}
 use Rattle.formats.specs.declared.Format.{Format}
 
 -- half of the values of a signed input are below 0
@@ -35,6 +35,10 @@ ends-unsigned f e = rw e (+ℤ-idl (pos (2 ^ f .length - 1)) ∙ less (2 ^ f .le
 
 pub ends : Ends
 ends = record { signed = ends-signed; unsigned = ends-unsigned }
+
+pub endsInFigures : EndsInFigures
+unfolding lowest highest
+endsInFigures = record { lowest1 = refl; highest1 = refl; lowest64 = refl; highest64 = refl }
 
 -- the values of an input are the 2^n from the lowest up
 pub counted-in : (f : Format) (t : ℕ) → t < 2 ^ f .length → InFormat f (lowest f +ℤ pos t)

@@ -5,10 +5,12 @@
 --   BytesFormats  the two undo one another. Proved in proofs/Bytes:
 --     read        the format of a byte has that byte
 --     written     and the byte of a format gives that format, where the word length has seven bits
+--     marked      the input is signed exactly where the byte is 128 or more, whatever its word length
 --     low         the word length of a byte is its remainder by 128
-use mathlib.Core.Bool.{cond}
+use mathlib.Core.Bool.{true, cond}
+use mathlib.Core.Logic.{_↔_}
 use mathlib.Core.Path.{_≡_}
-use Prim.Native.Nat.{ℕ, _+_, _-_, _%_, _<_}
+use Prim.Native.Nat.{ℕ, _+_, _-_, _%_, _≤_, _<_}
 use lib.Dec.{leb}
 use Rattle.formats.specs.declared.Format.{Format}
 
@@ -21,4 +23,5 @@ byteOf f = cond (f .signed) 128 0 + f .length
 pub record BytesFormats : Type 0 where
   pub read : (b : ℕ) → byteOf (formatOf b) ≡ b
   pub written : (f : Format) → f .length < 128 → formatOf (byteOf f) ≡ f
+  pub marked : (b : ℕ) → (formatOf b .signed ≡ true) ↔ (128 ≤ b)
   pub low : (b : ℕ) → b < 256 → formatOf b .length ≡ b % 128

@@ -20,14 +20,14 @@ use Rattle.datapath.specs.Steps.{stepValue, values, exact, output}
 use Rattle.grid_theorem.specs.Comparison.{differsAt, firstDifference}
 use Rattle.words.specs.Bytes.{little}
 use Rattle.text.specs.Decimal.{digitsOf, decimal, integer}
-use Rattle.printed.specs.Listings.{a·dp, b·dp, ten-product, ten-zero, signed-constant, listingTable, Listings, refusedTable, RefusedListings}
+use Rattle.printed.specs.Listings.{a·dp, b·dp, ten-product, ten-zero, signed-constant, extreme-constant, listingTable, Listings, refusedTable, RefusedListings}
 use Rattle.printed.specs.Report.{gridText, verdictText, printed}
 use Rattle.text.specs.Text.{spacedBy}
 use Rattle.printed.specs.Lines.{refusalLine, gridLine, differLine, equivalentLine, runLine}
 
 -- both tables at once
 computed : Listings × RefusedListings
-unfolding listingTable refusedTable a·dp b·dp ten-product ten-zero signed-constant
+unfolding listingTable refusedTable a·dp b·dp ten-product ten-zero signed-constant extreme-constant
     printed gridText verdictText gridLine differLine equivalentLine runLine refusalLine spacedBy decimal digitsOf integer
     opened noSession pairRefusal sameSizes outputOf stop firstPlace
     refusalOf shownStep fileNumber headFault tooShort shortOfHead badOutput badInputs badCount badWidths widthRule badLength

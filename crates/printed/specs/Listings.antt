@@ -1,7 +1,7 @@
 -- Texts that are to be printed, byte by byte.
 --   Listing       two files, and the text that is to be printed of them
 --   listingTable  the table: document 01's files a.dp and b.dp ('Pairs'), b.dp with itself, two empty files, two files of ten inputs, and with
---                 signed inputs two constants, and a.dp and b.dp
+--                 signed inputs two constants, a.dp and b.dp, and two constants of the shortest and the longest inputs
 --   Listings      each text is what is printed
 --   RefusedPair   two files that are refused, with the refusal's number, file and step
 --   refusedTable  the table: document 01's files, damaged so that each of 1 to 9 refuses one or the other, and so that two conditions hold
@@ -51,6 +51,11 @@ ten-zero = (0x02 ∷ 0x0a ∷ 0x01 ∷ 0x00 ∷ ten-widths) ++ (0x02 ∷ []) ++ 
 -- the constant c with m 8 and one signed input of 8 bits
 unfoldable pub signed-constant : ℕ → List ℕ
 signed-constant c = (0x08 ∷ 0x01 ∷ 0x01 ∷ 0x00 ∷ 0x88 ∷ replicate 7 0x00) ++ (0x02 ∷ []) ++ (c ∷ replicate 7 0x00)
+
+-- the constant c with m 1, and inputs of 64 bits, signed, of 64 bits, unsigned, and of 1 bit, signed
+unfoldable pub extreme-constant : ℕ → List ℕ
+extreme-constant c =
+    (0x01 ∷ 0x03 ∷ 0x01 ∷ 0x00 ∷ 0xc0 ∷ 0x40 ∷ 0x81 ∷ replicate 5 0x00) ++ (0x02 ∷ []) ++ (c ∷ replicate 7 0x00)
 
 unfoldable pub listingTable : List Listing
 listingTable =
@@ -108,6 +113,17 @@ listingTable =
           (0x67 ∷ 0x72 ∷ 0x69 ∷ 0x64 ∷ 0x20 ∷ 0x32 ∷ 0x20 ∷ 0x34 ∷ 0x20 ∷ 0x3d ∷ 0x20 ∷ 0x38 ∷ 0x0a ∷ [])
           ++ (0x64 ∷ 0x69 ∷ 0x66 ∷ 0x66 ∷ 0x65 ∷ 0x72 ∷ 0x20 ∷ 0x31 ∷ 0x20 ∷ 0x2d ∷ 0x32 ∷ 0x20 ∷ 0x3a ∷ 0x20 ∷ 0x32 ∷ 0x20 ∷ 0x30 ∷ 0x0a ∷ [])
           ++ (0x72 ∷ 0x75 ∷ 0x6e ∷ 0x20 ∷ 0x35 ∷ 0x0a ∷ []);
+    }
+    -- grid 2 2 2 = 8, differ -9223372036854775808 0 -1 : 1 0, run 1
+    ∷ record {
+      file₁ = extreme-constant 0x01;
+      file₂ = extreme-constant 0x00;
+      text =
+          (0x67 ∷ 0x72 ∷ 0x69 ∷ 0x64 ∷ 0x20 ∷ 0x32 ∷ 0x20 ∷ 0x32 ∷ 0x20 ∷ 0x32 ∷ 0x20 ∷ 0x3d ∷ 0x20 ∷ 0x38 ∷ 0x0a ∷ [])
+          ++ (0x64 ∷ 0x69 ∷ 0x66 ∷ 0x66 ∷ 0x65 ∷ 0x72 ∷ 0x20 ∷ 0x2d ∷ 0x39 ∷ 0x32 ∷ 0x32 ∷ 0x33 ∷ 0x33 ∷ 0x37 ∷ 0x32 ∷ 0x30 ∷ 0x33 ∷ [])
+          ++ (0x36 ∷ 0x38 ∷ 0x35 ∷ 0x34 ∷ 0x37 ∷ 0x37 ∷ 0x35 ∷ 0x38 ∷ 0x30 ∷ 0x38 ∷ [])
+          ++ (0x20 ∷ 0x30 ∷ 0x20 ∷ 0x2d ∷ 0x31 ∷ 0x20 ∷ 0x3a ∷ 0x20 ∷ 0x31 ∷ 0x20 ∷ 0x30 ∷ 0x0a ∷ [])
+          ++ (0x72 ∷ 0x75 ∷ 0x6e ∷ 0x20 ∷ 0x31 ∷ 0x0a ∷ []);
     }
     ∷ []
 

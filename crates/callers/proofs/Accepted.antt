@@ -233,6 +233,7 @@ module _ (f x s o s′ o′ : List ℕ) (h : EvaluateCall f x s o 1 s′ o′) (
       let t = evaluateExactly f x (length s) .0 evaluate-number in
       let known : sizesOf f .d ≤ length (sizesOf f .widths) = omega (arith, length-widths f, t .file .inputsHigh) in
       record {
+        count = t .vector .count;
         vector = fullVectorWidth (sizesOf f) x known (t .vector .count) .0 (t .vector);
         output = ap (λ l. wordAt l 3) evaluate-said ∙ ap (λ (a : Answer). a .output) (sym (p .0));
         scratch = wrote (has 4 o) (evaluatedScratch f x s) s s′ (h .result) (h .scratch) ∙ sym (p .1);

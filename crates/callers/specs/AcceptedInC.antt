@@ -25,7 +25,8 @@
 --     size         and the last word is G
 --     none         in a refusal all words from word 3 on are 0
 --   Evaluated f x s s′ o′     of corkbingo_evaluate, where the number word is 0:
---     vector       the words x give a full-width vector of its inputs
+--     count        there is a word for each of its inputs
+--     vector       the words x give a full-width vector of these
 --     output       word 3 is the output of the file at this vector
 --     scratch      the first N scratch entries are 0, and the others as at entry
 --   Tabled f s t s′ t′   of corkbingo_table, where the number word is 0:
@@ -100,6 +101,7 @@ pub record Gridded (f o′ : List ℕ) : Type 0 where
   pub none : ¬ (wordAt o′ 0 ≡ 0) → drop atAxes o′ ≡ replicate (maxInputs + 1) 0
 
 pub record Evaluated (f x s s′ o′ : List ℕ) : Type 0 where
+  pub count : length x ≡ sizesOf f .d
   pub vector : FullWidth (formatsOf (sizesOf f)) (vectorOf (sizesOf f) x)
   pub output : wordAt o′ 3 ≡ outputOf f (vectorOf (sizesOf f) x)
   pub scratch : s′ ≡ replicate (stepCount f) 0 ++ drop (stepCount f) s

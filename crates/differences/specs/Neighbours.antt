@@ -1,7 +1,7 @@
 -- What differencing and summing have in common: each value is joined with s times its neighbour, s = −1 for differences and s = 1 for sums.
 --   combine s f      x ↦ f(x + 1) + s·f(x)
 --   combined s k f   combine applied k times
---   mixed s ks F     combine for each input in turn, k_i times, at the zero vector
+--   mixed s ks F     combine for each input in turn, k_i times, at the counts 0
 use mathlib.Core.List.{List, [], _∷_}
 use Prim.Native.Nat.{ℕ, zero, suc}
 use lib.IntN.{ℤ, _+ℤ_, _*ℤ_}

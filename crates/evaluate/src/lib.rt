@@ -119,8 +119,8 @@ fn refusal_at(file: &[u8], vector: &[u64], room: usize) -> Refusal
 }
 
 // The output of the file at the vector that the words give, in two's complement for a signed input: the exact value of
-// its last step modulo 2^m. Refused under document 01's conditions 1 to 8, 12 and 14, in this order. Afterwards the first N scratch entries are zero and the others
-// untouched; a refused call touches none.
+// its last step modulo 2^m. Refused under document 01's conditions 1 to 8, 12 and 14, in this order. Afterwards the
+// first N scratch entries are zero and the others untouched; a refused call touches none.
 pub fn evaluate(file: &[u8], vector: &[u64], scratch: &mut [u64]) -> Evaluated
     ensures { λ r. ⌜
         Evaluates (now (file .entry)) (now (vector .entry)) (now (scratch .entry)) r (now (scratch .exit))

@@ -61,8 +61,9 @@ pub extern "C" fn corkbingo_grid(file: &[u8], out: &mut [u64]) -> u32
     grid_call(file, out)
 }
 
-// The output of a file at a vector: out gets the refusal and the output. Of the scratch slice the first N entries are
-// zero afterwards where the call is accepted; nothing else is touched.
+// The output of a file at a vector, given as words, in two's complement for a signed input: out gets the refusal and
+// the output. Of the scratch slice the first N entries are zero afterwards where the call is accepted; nothing else is
+// touched.
 #[no_mangle]
 pub extern "C" fn corkbingo_evaluate(
     file: &[u8],

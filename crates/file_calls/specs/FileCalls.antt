@@ -1,5 +1,5 @@
 -- What the calls on one file promise. The parameters of each record are what the call is given, its lent slices at entry, what it
--- returns, and these slices at exit (with a ′): file f, answer slice o, vector x, scratch slice s.
+-- returns, and these slices at exit (with a ′): file f, answer slice o, the words x of a vector, scratch slice s.
 --   CheckCall        check_call
 --   OperationsCall   operations_call
 --   EvaluateCall     evaluate_call

@@ -45,8 +45,9 @@ pub fn operations_call(file: &[u8], out: &mut [u64]) -> u32
     1
 }
 
-// The output of a file at a vector: out gets the refusal and the output. Of the scratch slice the first N entries are
-// zero afterwards where the call is accepted; nothing else is touched.
+// The output of a file at a vector, given as words, in two's complement for a signed input: out gets the refusal and
+// the output. Of the scratch slice the first N entries are zero afterwards where the call is accepted; nothing else is
+// touched.
 pub fn evaluate_call(file: &[u8], vector: &[u64], scratch: &mut [u64], out: &mut [u64]) -> u32
     ensures { λ r. ⌜
         EvaluateCall (now (file .entry)) (now (vector .entry)) (now (scratch .entry)) (now (out .entry)) r

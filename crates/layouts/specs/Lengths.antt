@@ -1,10 +1,10 @@
 -- The layouts of words, as C callers get and give them: how many words each has, and where each word stands.
---   sizes      m, d, n1 to the last width byte
+--   sizes      m, d, the width bytes
 --   session    the sizes, position, mark
 --   refusal    number (0: accepted), file, step
 --   grid       the refusal, u1 to the last axis, G
---   answer     the refusal, kind, vectors run, x1 to the last input's value, output of file 1, output of file 2
--- There are maxInputs width bytes, and as many axes and values. `wordAt w i` is the word at offset i, and 0 past the end.
+--   answer     the refusal, kind, vectors run, the words of the vector, output of file 1, output of file 2
+-- There are maxInputs width bytes, and as many axes and words of a vector. `wordAt w i` is the word at offset i, and 0 past the end.
 use mathlib.Core.List.{List}
 use Prim.Native.Nat.{ℕ, _+_}
 use lib.ListN.{getD}

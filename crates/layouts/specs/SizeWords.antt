@@ -1,4 +1,4 @@
--- Sizes as words: m, d, n1 to the last width byte.
+-- Sizes as words: m, d, the width bytes.
 --   sizeWords z   the words of the sizes z
 --   sizeBytes w   each of the first words, as many as sizes have, fits a byte
 --   sizesFit w    the words are sizes: there are sizesLength of them, and each fits a byte

@@ -1,7 +1,7 @@
 -- What is claimed of the layouts: where each word stands, that reading words undoes writing them, and that writing undoes reading. Each
 -- statement is proved in proofs/, under the same name with a small first letter.
 --   Offsets                 the offsets and the lengths of the C header as numbers, and what stands there:
---     refusal, sizes, session, answer    of any refusal, and of sizes, sessions and answers with maxInputs width bytes and values
+--     refusal, sizes, session, answer    of any refusal, and of sizes, sessions and answers with maxInputs width bytes and words of a vector
 --   RefusalPlaces, SizesPlaces, SessionPlaces, AnswerPlaces
 --                           what stands there, field by field: `count` is the number of words, the others are named as what stands there
 --   WordsOfMarksAndKinds    the words of the marks and of the kinds as numbers

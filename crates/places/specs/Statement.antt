@@ -5,6 +5,7 @@
 --     only      no other place has it
 --     found     every vector of the grid is at a place
 --   InOrder     a place is below another exactly where its vector is before the other's
+--   EachPlaced  so it is on every grid
 use mathlib.Core.Path.{_≡_}
 use mathlib.Core.Logic.{_↔_}
 use mathlib.Core.List.{List}

@@ -1,4 +1,4 @@
--- Lists with an entry for each of the inputs that a file may have: width bytes, the values of a vector, the axes of a grid.
+-- Lists with an entry for each of the inputs that a file may have: width bytes, the words of a vector, the axes of a grid.
 --   padded v   the list v, with zeros for the inputs that the file doesn't have
 use mathlib.Core.List.{List, _++_}
 use Prim.Native.Nat.{ℕ, _-_}

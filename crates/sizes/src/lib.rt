@@ -98,7 +98,8 @@ fn width_rule(z: Sizes, i: usize) -> bool
     within(1, 64, format.length)
 }
 
-// Whether a width byte breaks condition 5: a word length of 1 to 64 for the first d, 0 for the others.
+// Whether a width byte breaks condition 5: a word length of 1 to 64 for the first d, and the whole byte 0 for the
+// others.
 pub fn bad_widths(z: Sizes) -> bool
     ensures { λ r. ⌜ r ≡ badWidths z ⌝ }
 {

@@ -12,9 +12,9 @@ ghost use Rattle.tables.specs.Tables.{CellsCall};
 
 // Summing the first G cells as a table, or else differencing them as outputs. Of the result slice the first G entries
 // become, in dictionary order: where `sum`, the sums at every vector x of the grid, each cell k times the binomials
-// (xi choose ki), added and reduced modulo 2^m; else the difference table, whose cell k holds the k-fold forward
-// difference at the zero vector, modulo 2^m. Number 0: accepted. Otherwise refused under document 01's conditions 2,
-// 3, 5 and 13, in this order, with the slice untouched.
+// (xi choose ki), with xi counted from its lowest value, added and reduced modulo 2^m; else the difference table, whose
+// cell k holds the k-fold forward difference at the lowest values, modulo 2^m. Number 0: accepted. Otherwise refused
+// under document 01's conditions 2, 3, 5 and 13, in this order, with the slice untouched.
 pub fn transform_cells(z: Sizes, cells: &[u64], result: &mut [u64], sum: bool) -> Refusal
     ensures { λ r. ⌜ CellsCall z (now (cells .entry)) sum (now (result .entry)) r (now (result .exit)) ⌝ }
 {

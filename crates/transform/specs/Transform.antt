@@ -1,5 +1,5 @@
 -- What the passes over all axes leave, and what is left of it modulo 2^m.
---   blockwise s vs l        l as blocks of the size of the grid vs, each replaced by its mixed combinations at the vectors of that grid
+--   blockwise s vs l        l as blocks of the size of the grid vs, each replaced by its mixed combinations at the counts of that grid's places
 --   transformOf sum M us c  the outputs that the cells c sum to over the grid us modulo M, or the difference table of c
 use mathlib.Core.Bool.{Bool, cond}
 use mathlib.Core.List.{List}

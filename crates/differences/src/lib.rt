@@ -1,1 +1,2 @@
 // Difference tables and their sums: definitions in specs/, laws in proofs/. No code.
+#![tactic(auto)]

@@ -1,4 +1,5 @@
 // The number format of an input, and the parts of a width byte.
+#![tactic(auto)]
 ghost use mathlib.Core.Path.{_≡_};
 ghost use Rattle·formats·specs.specs.Bytes.{format_of};
 

@@ -1,1 +1,2 @@
 // The grid theorem: its statement in specs/, its proof in proofs/. No code.
+#![tactic(auto)]

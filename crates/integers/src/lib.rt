@@ -1,1 +1,2 @@
 // Pure mathematics: definitions in specs/, laws in proofs/. No code.
+#![tactic(auto)]

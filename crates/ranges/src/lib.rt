@@ -1,1 +1,2 @@
 // Bounded search over the natural numbers: definitions in specs/, laws in proofs/. No code.
+#![tactic(auto)]

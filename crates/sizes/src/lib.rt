@@ -1,4 +1,5 @@
 // The sizes of a datapath, and the refusal that every call can answer.
+#![tactic(auto)]
 ghost use Rattle.std.specs.Prelude.{◌≡◌, ◌<◌};
 ghost use Rattle.sizes.specs.Sizes.{
   within,

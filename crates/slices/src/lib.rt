@@ -1,4 +1,5 @@
 // Writing the front of a slice: clearing it, and copying over it.
+#![tactic(auto)]
 ghost use Rattle.std.specs.Prelude.{◌≡◌, ◌≤◌, length};
 ghost use Rattle.slices.specs.Slices.{cleared, overwritten};
 

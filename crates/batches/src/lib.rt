@@ -18,7 +18,7 @@ pub const AXIS: usize = 66;
 
 // How two files are run in lanes: the lanes of a row, and whether the files are run in turn in the same rows or have
 // rows of their own each.
-#[derive(Drop)]
+#[derive(Clone, Copy)]
 pub struct Shape {
     pub w: usize,
     pub turn: bool,

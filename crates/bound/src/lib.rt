@@ -1,5 +1,6 @@
 // The bound L(m): the least natural number whose factorial is divisible by 2^m.
 #![tactic(auto)]
+
 ghost use Rattle.std.specs.Prelude.{◌≡◌, ◌≤◌};
 ghost use Rattle.bound.specs.Bound.{bound};
 

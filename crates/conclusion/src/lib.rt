@@ -11,7 +11,7 @@ use sessions::{Answer, Mark, Session};
 pub const BUDGET: u64 = 1_000_000;
 
 // The answer that gives the verdict, and the vectors run over all calls.
-#[derive(Drop)]
+#[derive(Clone, Copy)]
 pub struct Conclusion {
     pub answer: Answer,
     pub run: u64,

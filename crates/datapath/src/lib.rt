@@ -3,7 +3,7 @@
 
 // One step: an input by its index, counted from 0; a constant; or the sum, difference or product of two earlier
 // steps, by their indices.
-#[derive(Drop)]
+#[derive(Clone, Copy)]
 pub enum Step {
     Input(usize),
     Constant(u64),

@@ -14,7 +14,7 @@ use slices::clear;
 use words::{cut, wrapping_mul};
 
 // What evaluating answers: the refusal, and the output, which is 0 in a refusal.
-#[derive(Drop)]
+#[derive(Clone, Copy)]
 pub struct Evaluated {
     pub refusal: Refusal,
     pub output: u64,

@@ -10,7 +10,7 @@ use sizes::{Refusal, is_output_length, refused_by};
 pub const QUOTIENTS: usize = 6;
 
 // What is answered about m: a refusal, or L(m) and its quotients.
-#[derive(Drop)]
+#[derive(Clone, Copy)]
 pub struct Figures {
     pub refusal: Refusal,
     pub bound: u64,

@@ -1,9 +1,11 @@
 // The number format of an input, and the parts of a width byte.
 #![tactic(auto)]
-ghost use mathlib.Core.Path.{_≡_};
-ghost use Rattle·formats·specs.specs.Bytes.{format_of};
+
+ghost use Rattle.std.specs.Prelude.{◌≡◌};
+ghost use Rattle.formats.specs.Bytes.{format_of};
 
 // Whether an input is signed, which is two's complement, and its word length n.
+#[derive(Clone, Copy)]
 pub struct Format {
     pub signed: bool,
     pub length: u64,
@@ -11,7 +13,7 @@ pub struct Format {
 
 // The format that a width byte gives: its top bit is the mark of a signed input, and the low seven bits are n.
 pub fn format_of(byte: u8) -> Format
-    ensures { λ r. ⌜ r ≡ format_of byte ⌝ }
+    ensures { result ≡ format_of byte }
 {
     let mark = byte >> 7;
     let length = byte & 127;

@@ -9,7 +9,7 @@ use formats::format_of;
 use sizes::{INPUTS, Sizes};
 
 // The axes, 0 past the last input, and the count of vectors.
-#[derive(Drop)]
+#[derive(Clone, Copy)]
 pub struct Grid {
     pub axes: [u64; INPUTS],
     pub size: u64,

@@ -10,7 +10,7 @@ use row_lanes::first_unequal;
 use rows::fill_row;
 
 // How many steps of each file are listed.
-#[derive(Drop)]
+#[derive(Clone, Copy)]
 pub struct Counts {
     pub c1: usize,
     pub c2: usize,

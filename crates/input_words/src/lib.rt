@@ -1,5 +1,6 @@
 // The values of inputs as 64-bit words: two's complement for a signed input, plain for an unsigned one.
 #![tactic(auto)]
+
 ghost use Rattle.std.specs.Prelude.{◌≡◌};
 ghost use Rattle.formats.specs.Formats.{lowest};
 ghost use Rattle.words.specs.Words.{word};

@@ -12,7 +12,7 @@ use rows::{copy_row, fill_row};
 
 // How a file is run along lines: N, how many of its steps are listed, d, the axis of the last input and the word of its
 // lowest value, and the lanes.
-#[derive(Drop)]
+#[derive(Clone, Copy)]
 pub struct Along {
     pub n: usize,
     pub count: usize,

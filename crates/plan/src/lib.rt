@@ -11,7 +11,7 @@ use vectors::lowest_words;
 
 // N of both files, m, d, the axes of the grid on which the files are compared and the words of the inputs' lowest
 // values, with 0 past the last input, and the grid's count of vectors.
-#[derive(Drop)]
+#[derive(Clone, Copy)]
 pub struct Plan {
     pub n1: usize,
     pub n2: usize,
@@ -23,7 +23,7 @@ pub struct Plan {
 }
 
 // Places of a grid, or lines of it: from the first to before the end.
-#[derive(Drop)]
+#[derive(Clone, Copy)]
 pub struct Span {
     pub from: u64,
     pub end: u64,

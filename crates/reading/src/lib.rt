@@ -4,7 +4,7 @@ ghost use Rattle.std.specs.Prelude.{◌≡◌, ◌+◌, ◌^◌, ◌<◌, length
 ghost use Rattle.reading.specs.Reading.{none_or_two, failed_read, after_read, no_bytes};
 
 // How reading a file ended: a read failed, a read brought nothing, at the end of the file, or the buffer is full.
-#[derive(Drop)]
+#[derive(Clone, Copy)]
 pub enum ReadEnd {
     Failed,
     AtEnd,
@@ -12,14 +12,14 @@ pub enum ReadEnd {
 }
 
 // What reading a file came to: how many bytes it gave, at the start of the buffer, and how it ended.
-#[derive(Drop)]
+#[derive(Clone, Copy)]
 pub struct Reading {
     pub count: usize,
     pub end: ReadEnd,
 }
 
 // What one read comes to: it ends reading, or so many bytes have come by now and reading goes on.
-#[derive(Drop)]
+#[derive(Clone, Copy)]
 pub enum AfterRead {
     Ended(Reading),
     More(usize),

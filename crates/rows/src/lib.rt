@@ -1,5 +1,7 @@
 // Rows of w lanes in a slice: one operation at a time is done on all lanes of a row. The loops are short enough to be
 // inlined where w is a constant, and compile to straight-line code there.
+#![tactic(auto)]
+
 ghost use Rattle.std.specs.Prelude.{◌≡◌, ℕ, ◌≤◌, ◌<◌, get_or};
 ghost use Rattle.rows.specs.Rows.{max_lanes, lane, HasRow, Written};
 

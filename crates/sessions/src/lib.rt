@@ -3,7 +3,7 @@
 use sizes::{INPUTS, Refusal, Sizes};
 
 // How far a comparison has come: still open, or closed by a verdict.
-#[derive(Drop)]
+#[derive(Clone, Copy)]
 pub enum Mark {
     Open,
     Equal,
@@ -11,7 +11,7 @@ pub enum Mark {
 }
 
 // A comparison in progress: the sizes of the files, the vectors run so far, and the mark.
-#[derive(Drop)]
+#[derive(Clone, Copy)]
 pub struct Session {
     pub sizes: Sizes,
     pub position: u64,
@@ -19,7 +19,7 @@ pub struct Session {
 }
 
 // What a continue call came to.
-#[derive(Drop)]
+#[derive(Clone, Copy)]
 pub enum Kind {
     Refused,
     Spent,
@@ -28,7 +28,7 @@ pub enum Kind {
 }
 
 // What a continue call answers. Fields that an answer has no use for are zero.
-#[derive(Drop)]
+#[derive(Clone, Copy)]
 pub struct Answer {
     pub refusal: Refusal,
     pub kind: Kind,
@@ -39,14 +39,14 @@ pub struct Answer {
 }
 
 // An answer, with the session that is handed back.
-#[derive(Drop)]
+#[derive(Clone, Copy)]
 pub struct Continued {
     pub session: Session,
     pub answer: Answer,
 }
 
 // What opening answers: the refusal, and the session.
-#[derive(Drop)]
+#[derive(Clone, Copy)]
 pub struct Opened {
     pub refusal: Refusal,
     pub session: Session,

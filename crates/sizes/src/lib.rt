@@ -1,5 +1,6 @@
 // The sizes of a datapath, and the refusal that every call can answer.
 #![tactic(auto)]
+
 ghost use Rattle.std.specs.Prelude.{◌≡◌, ◌<◌};
 ghost use Rattle.sizes.specs.Sizes.{
   within,
@@ -20,7 +21,7 @@ use formats::format_of;
 pub const INPUTS: usize = 10;
 
 // m, the output word length; d, the count of inputs; and the width bytes of the inputs, with 0 past the last.
-#[derive(Drop)]
+#[derive(Clone, Copy)]
 pub struct Sizes {
     pub m: u8,
     pub d: u8,
@@ -28,7 +29,7 @@ pub struct Sizes {
 }
 
 // Document 01's refusal: its number, the file (1 or 2, else 0) and the step (else 0). Number 0: accepted.
-#[derive(Drop)]
+#[derive(Clone, Copy)]
 pub struct Refusal {
     pub number: u64,
     pub file: u64,

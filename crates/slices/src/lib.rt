@@ -1,5 +1,6 @@
 // Writing the front of a slice: clearing it, and copying over it.
 #![tactic(auto)]
+
 ghost use Rattle.std.specs.Prelude.{◌≡◌, ◌≤◌, length};
 ghost use Rattle.slices.specs.Slices.{cleared, overwritten};
 

@@ -1,5 +1,6 @@
 // Arithmetic modulo 2^64, the cut to m bits, and little-endian reading.
 #![tactic(auto)]
+
 ghost use Rattle.std.specs.Prelude.{◌≡◌, ◌+◌, ◌*◌, ◌%◌, ◌^◌, ◌<◌, ◌≤◌, length};
 ghost use Rattle.words.specs.Bytes.{little};
 

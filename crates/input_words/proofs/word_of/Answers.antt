@@ -16,8 +16,8 @@ use Rattle.words.specs.Words.{word}
 use Rattle.words.proofs.Congruence.{word_pos}
 use Rattle.input_words.proofs.Complement.{complement_negsuc, complement_fits, complement_read}
 use Rattle.input_words.proofs.InputWords.{word-negative}
-use Rattle.input_words.proofs.word_of.Statement.{statement}
-use Rattle.input_words.proofs.word_of.Tie as tie
+use Rattle.input_words.proofs.word_of.Goals.{Else-x-lt0, Start, Then-x-lt0}
+use Rattle.input_words.proofs.word_of.Goals as goal
 
 -- the integer z may be cast to a word, and r, which is made of that, is the word of x
 record Cast (x z : ℤ) (r : ℕ) : Type 0 where
@@ -36,46 +36,41 @@ not_negative (pos a) h e = record { natural = tt; room = h; made = sym (word_pos
 not_negative (negsuc a) h e = absurd (let z : ◌≡◌ {A = ℕ} 0 1 = cc in omega arith)
 
 -- x, as its bits give it
-read_back : (s : tie.Start) → to_z w64 (of_z w64 s.args.x) ≡ s.args.x
+read_back : (s : Start) → to_z w64 (of_z w64 s.args.x) ≡ s.args.x
 read_back s = to_z-of_z w64 s.args.x s.ranges.x
 
 below :
-    (c : tie.Then1) →
-    let z : ℤ = to_z w64 (of_z w64 (negsuc 0 -ℤ to_z w64 (of_z w64 c.before.args.x))) in
-    Cast c.before.args.x z (2 ^ 64 - 1 - nat_abs z)
+    (c : Then-x-lt0) →
+    let z : ℤ = to_z w64 (of_z w64 (negsuc 0 -ℤ to_z w64 (of_z w64 c.args.x))) in
+    Cast c.args.x z (2 ^ 64 - 1 - nat_abs z)
 below c =
-    let s = c.before in
-    let x = s.args.x in
-    subst (λ z. Cast x z (2 ^ 64 - 1 - nat_abs z)) (sym (complement_read x _ (read_back s) s.ranges.x))
-    (negative x s.ranges.x.sfits (subst (λ z. lt_z z (pos 0) ≡ true) (read_back s) c.if1.true))
+    let x = c.args.x in
+    subst (λ z. Cast x z (2 ^ 64 - 1 - nat_abs z)) (sym (complement_read x _ (read_back (goal.at.overflow_sub-result c).Start) c.ranges.x))
+    (negative x c.ranges.x.sfits (subst (λ z. lt_z z (pos 0) ≡ true) (read_back (goal.at.overflow_sub-result c).Start) c.if-x-lt0.true))
 
 not-below :
-    (c : tie.Else1) →
-    let z : ℤ = to_z w64 (of_z w64 c.before.args.x) in
-    Cast c.before.args.x z (nat_abs z)
+    (c : Else-x-lt0) →
+    let z : ℤ = to_z w64 (of_z w64 c.args.x) in
+    Cast c.args.x z (nat_abs z)
 not-below c =
-    let s = c.before in
-    let x = s.args.x in
-    subst (λ z. Cast x z (nat_abs z)) (sym (read_back s))
-    (not_negative x s.ranges.x.sfits (subst (λ z. lt_z z (pos 0) ≡ false) (read_back s) c.if1.false))
+    let x = c.args.x in
+    subst (λ z. Cast x z (nat_abs z)) (sym (read_back (goal.at.overflow_cast-result-2 c).Start))
+    (not_negative x c.ranges.x.sfits (subst (λ z. lt_z z (pos 0) ≡ false) (read_back (goal.at.overflow_cast-result-2 c).Start) c.if-x-lt0.false))
 
-sub-result : tie.Need-overflow-sub-result
-sub-result c = complement_fits c.before.args.x _ (read_back c.before) c.before.ranges.x
+pub overflow_sub-result : goal.overflow_sub-result
+overflow_sub-result c = complement_fits c.args.x _ (read_back (goal.at.overflow_sub-result c).Start) c.ranges.x
 
-cast-result : tie.Need-overflow-cast-result
-cast-result c = ((below c).natural, record { fits = omega (arith, (below c).room) })
+pub overflow_cast-result : goal.overflow_cast-result
+overflow_cast-result c = ((below c).natural, record { fits = omega (arith, (below c).room) })
 
-sub-result-2 : tie.Need-overflow-sub-result-2
-sub-result-2 c = omega (arith, (below c).room)
+pub overflow_sub-result-then-x-lt0 : goal.overflow_sub-result-then-x-lt0
+overflow_sub-result-then-x-lt0 c = omega (arith, (below c).room)
 
-returns : tie.Need-returns
-returns c = (below c).made
+pub returns-then-x-lt0 : goal.returns-then-x-lt0
+returns-then-x-lt0 c = (below c).made
 
-cast-result-2 : tie.Need-overflow-cast-result-2
-cast-result-2 c = ((not-below c).natural, record { fits = omega (arith, (not-below c).room) })
+pub overflow_cast-result-2 : goal.overflow_cast-result-2
+overflow_cast-result-2 c = ((not-below c).natural, record { fits = omega (arith, (not-below c).room) })
 
-returns-2 : tie.Need-returns-2
-returns-2 c = (not-below c).made
-
-pub word-of-spec : {M : Type 1} → statement M
-word-of-spec = tie.close (tie.spec sub-result cast-result sub-result-2 returns cast-result-2 returns-2)
+pub returns : goal.returns
+returns c = (not-below c).made

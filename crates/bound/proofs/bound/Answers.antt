@@ -7,26 +7,12 @@ use native.Mathlib.Decide.{dec_le}
 use native.Mathlib.Omega.{arith}
 use lib.Count.{count_leading_zeros, leading_top}
 use lib.Pow.{pow_pos, pow_mono}
-use borrow.Author.Rules.{rules}
 use Rattle.integers.proofs.Exponent.{power_shifted}
 use Rattle.bound.specs.Bound.{bound, log2, greedy}
 use Rattle.bound.proofs.Computed.{log2_unique, greedy_0, greedy-step}
 use Rattle.bound.proofs.Table.{bound-most}
-use Rattle.bound.proofs.bound.Statement.{statement}
-use Rattle.bound.proofs.bound.Tie as tie
-
-record Adding (m v rem n : ℕ) : Type 0 where
-  low : 1 ≤ m
-  high : m ≤ 64
-  adds : n + greedy v rem ≡ greedy (log2 (1 + m)) m
-  remains : rem + 1 < 2 ^ suc v
-  few : v ≤ 6
-
-abbrev invariant-loop : tie.invariant-loop
-invariant-loop m rem₀ v₀ n₀ rem v n = Adding m v rem n
-
-abbrev decreases-loop : tie.decreases-loop
-decreases-loop m rem₀ v₀ n₀ rem v n = v
+use Rattle.bound.proofs.bound.Invariants.{Adding}
+use Rattle.bound.proofs.bound.Goals as goal
 
 none : (v : ℕ) → ¬ (1 ≤ v) → v ≡ 0
 none v n = omega arith
@@ -99,70 +85,39 @@ module _ (m v rem n : ℕ) (p : Adding m v rem n) where
           few = omega (arith, p.few);
         }
 
-cast-rem : tie.Need-overflow-cast-rem invariant-loop decreases-loop
-cast-rem c = search rules
+pub overflow_sub-v : goal.overflow_sub-v
+overflow_sub-v c = omega (arith, zeros-most c.args.m c.requires.0 c.requires.1)
 
-add-v : tie.Need-overflow-add-v invariant-loop decreases-loop
-add-v c = search rules
+pub loop-rem-init : goal.loop-rem-init
+loop-rem-init c = start c.args.m c.requires.0 c.requires.1
 
-sub-v : tie.Need-overflow-sub-v invariant-loop decreases-loop
-sub-v c = omega (arith, zeros-most c.args.m c.requires.0 c.requires.1)
+pub overflow_sub-a : goal.overflow_sub-a
+overflow_sub-a c = let l = c.loop-rem in omega (arith, power_shifted 32 l.v (omega (arith, l.invariant.few)), pow_pos l.v)
 
-loop-holds : tie.Need-loop-init invariant-loop decreases-loop
-loop-holds c = start c.args.m c.requires.0 c.requires.1
+pub nonzero_div-n : goal.nonzero_div-n
+nonzero_div-n c = let l = c.loop-rem in part-least _ l.v l.rem l.n l.invariant c.loop-rem-test.true
 
-shl-a : tie.Need-overflow-shl-a invariant-loop decreases-loop
-shl-a c = search rules
+pub overflow_add-n : goal.overflow_add-n
+overflow_add-n c = let l = c.loop-rem in record { fits = omega (arith, adds-step _ l.v l.rem l.n l.invariant c.loop-rem-test.true, adds-most _ l.v l.rem l.n l.invariant) }
 
-sub-a : tie.Need-overflow-sub-a invariant-loop decreases-loop
-sub-a c = let l = c.before.loop in omega (arith, power_shifted 32 l.v (omega (arith, l.invariant.few)), pow_pos l.v)
+pub nonzero_rem-rem : goal.nonzero_rem-rem
+nonzero_rem-rem c = let l = c.loop-rem in part-least _ l.v l.rem l.n l.invariant c.loop-rem-test.true
 
-div-n : tie.Need-nonzero-div-n invariant-loop decreases-loop
-div-n c = let l = c.before.loop in part-least _ l.v l.rem l.n l.invariant c.loop-test.true
+pub overflow_sub-v-in-loop-rem : goal.overflow_sub-v-in-loop-rem
+overflow_sub-v-in-loop-rem c = let l = c.loop-rem in above _ l.v l.rem l.n l.invariant c.loop-rem-test.true
 
-add-n : tie.Need-overflow-add-n invariant-loop decreases-loop
-add-n c = let l = c.before.loop in record { fits = omega (arith, adds-step _ l.v l.rem l.n l.invariant c.loop-test.true, adds-most _ l.v l.rem l.n l.invariant) }
+pub loop-rem-smaller : goal.loop-rem-smaller
+loop-rem-smaller c = let l = c.loop-rem in omega (arith, above _ l.v l.rem l.n l.invariant c.loop-rem-test.true)
 
-rem-rem : tie.Need-nonzero-rem-rem invariant-loop decreases-loop
-rem-rem c = let l = c.before.loop in part-least _ l.v l.rem l.n l.invariant c.loop-test.true
+pub loop-rem-preserved : goal.loop-rem-preserved
+loop-rem-preserved c = let l = c.loop-rem in next _ l.v l.rem l.n l.invariant c.loop-rem-test.true
 
-sub-v-2 : tie.Need-overflow-sub-v-2 invariant-loop decreases-loop
-sub-v-2 c = let l = c.before.loop in above _ l.v l.rem l.n l.invariant c.loop-test.true
+pub overflow_cast-result : goal.overflow_cast-result
+overflow_cast-result c = let l = c.loop-rem in record { fits = omega (arith, adds-most _ l.v l.rem l.n l.invariant) }
 
-loop-less : tie.Need-loop-smaller invariant-loop decreases-loop
-loop-less c = let l = c.before.loop in omega (arith, above _ l.v l.rem l.n l.invariant c.loop-test.true)
+pub overflow_add-result : goal.overflow_add-result
+overflow_add-result c = let l = c.loop-rem in record { fits = omega (arith, adds-most _ l.v l.rem l.n l.invariant, l.invariant.high) }
 
-loop-again : tie.Need-loop-preserved invariant-loop decreases-loop
-loop-again c = let l = c.before.loop in next _ l.v l.rem l.n l.invariant c.loop-test.true
-
-cast-result : tie.Need-overflow-cast-result invariant-loop decreases-loop
-cast-result c = let l = c.before.loop in record { fits = omega (arith, adds-most _ l.v l.rem l.n l.invariant) }
-
-add-result : tie.Need-overflow-add-result invariant-loop decreases-loop
-add-result c = let l = c.before.loop in record { fits = omega (arith, adds-most _ l.v l.rem l.n l.invariant, l.invariant.high) }
-
-returns : tie.Need-returns invariant-loop decreases-loop
+pub returns : goal.returns
 unfolding bound
-returns c = let l = c.before.loop in ap (λ g. c.before.before.args.m + g) (ended _ l.v l.rem l.n l.invariant c.loop-test.false)
-
-pub bound-spec : {M : Type 1} → statement M
-bound-spec =
-    tie.close
-    (tie.spec
-    invariant-loop
-    decreases-loop
-    cast-rem
-    add-v
-    sub-v
-    loop-holds
-    shl-a
-    sub-a
-    div-n
-    add-n
-    rem-rem
-    sub-v-2
-    loop-less
-    loop-again
-    cast-result
-    add-result
-    returns)
+returns c = let l = c.loop-rem in ap (λ g. c.args.m + g) (ended _ l.v l.rem l.n l.invariant c.loop-rem-test.false)

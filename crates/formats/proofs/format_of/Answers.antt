@@ -9,8 +9,7 @@ use borrow.Author.Tests.{le-leb, lt-leb, eq-eqb, ne_eqb}
 use lib.Bits.{and_mask, mask_lt}
 use lib.Dec.{eqb, lit<}
 use Rattle.formats.specs.Bytes.{format_of}
-use Rattle.formats.proofs.format_of.Statement.{statement}
-use Rattle.formats.proofs.format_of.Tie as tie
+use Rattle.formats.proofs.format_of.Goals as goal
 
 parted : (b : ℕ) → b < 2 ^ 8 → record { signed = eqb (b / 128) 1; length = b % 128 } ≡ format_of b
 unfolding format_of
@@ -20,11 +19,8 @@ parted b h =
       | no l ↦ let e : b % 128 ≡ b - 128 = omega arith in rw (le-leb 128 b (omega arith), eq-eqb (b / 128) 1 (omega arith), e)
     ]
 
-cast-t5 : tie.Need-overflow-cast-t5
-cast-t5 c = record { fits = lt_trans (mask_lt c.args.byte 7) (lit< tt) }
+pub overflow_cast-result : goal.overflow_cast-result
+overflow_cast-result c = record { fits = lt_trans (mask_lt c.args.byte 7) (lit< tt) }
 
-returns : tie.Need-returns
+pub returns : goal.returns
 returns c = rw (and_mask c.args.byte 7) (parted c.args.byte c.ranges.byte.fits)
-
-pub format-of-spec : {M : Type 1} → statement M
-format-of-spec = tie.close (tie.spec cast-t5 returns)

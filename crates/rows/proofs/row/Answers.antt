@@ -1,0 +1,18 @@
+-- `rows::row` meets its contract. The loop's invariant: the first l entries of x are those of row k.
+-- Assumes nothing.
+use mathlib.Core.Path.{refl}
+use Prim.Native.Nat.{◌-◌}
+use native.Mathlib.Omega.{arith}
+use Rattle.rows.proofs.Writing.{put-start, put_step}
+use Rattle.rows.proofs.row.Goals as goal
+
+pub loop-l-preserved : goal.loop-l-preserved
+loop-l-preserved c =
+    let lanes = c.requires.0 in
+    (omega arith, put_step c.loop-l.invariant.1 _ (omega (arith, c.loop-l-test.true)) (λ i h e. omega arith) refl)
+
+pub returns : goal.returns
+returns c = λ i h. c.loop-l.invariant.1.new i (omega arith)
+
+pub loop-l-init : goal.loop-l-init
+loop-l-init c = (omega arith, put-start _ _ _)

@@ -1,4 +1,6 @@
 // The fields of a datapath file, read from its bytes, and its steps.
+#![tactic(auto)]
+
 ghost use Rattle.std.specs.Prelude.{◌≡◌, ◌+◌, ◌*◌, ◌^◌, ◌≤◌, ◌<◌, length, take, drop};
 ghost use Rattle.sizes.specs.Padded.{padded};
 ghost use Rattle.sizes.specs.Sizes.{max_inputs};

@@ -1,4 +1,6 @@
 // The figures of an output word length: its bound, and the quotients by which the bound can be followed by hand.
+#![tactic(auto)]
+
 ghost use Rattle.std.specs.Prelude.{◌≡◌};
 ghost use Rattle.bound.specs.Quotients.{halvings};
 ghost use Rattle.figures.specs.Figures.{figures_of};

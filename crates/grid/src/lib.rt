@@ -1,4 +1,6 @@
 // The grid of given sizes: its axes and its size.
+#![tactic(auto)]
+
 ghost use Rattle.std.specs.Prelude.{◌≡◌, min, ◌^◌, ◌≤◌};
 ghost use Rattle.bound.specs.Bound.{max_bound};
 ghost use Rattle.sizes.specs.Sizes.{Sound};

@@ -1,4 +1,6 @@
 // Single lanes of rows: a vector is set in one lane of the inputs' rows, and two rows are compared lane by lane.
+#![tactic(auto)]
+
 ghost use Rattle.std.specs.Prelude.{◌≡◌, ◌*◌, ◌≤◌, ◌<◌, length};
 ghost use Rattle.rows.specs.Rows.{HasRow};
 ghost use Rattle.ranges.specs.Search.{first};

@@ -1,4 +1,6 @@
 // Products of rows.
+#![tactic(auto)]
+
 ghost use Rattle.rows.specs.Rows.{Written, Operands};
 ghost use Rattle.row_products.specs.Products.{row_products, row_low_products};
 

@@ -1,4 +1,6 @@
 // Sums and differences of rows. The operands are copied first: so the machine adds several lanes at a time.
+#![tactic(auto)]
+
 ghost use Rattle.rows.specs.Rows.{Written, Operands};
 ghost use Rattle.row_sums.specs.Sums.{row_sums, row_differences};
 

@@ -1,5 +1,7 @@
 // The vectors of a grid, as the machine holds them: the one at a place, and the one after another. Of each input the
 // grid has consecutive values from its lowest up, as many as its axis; lows are the words of the lowest values.
+#![tactic(auto)]
+
 ghost use Rattle.std.specs.Prelude.{◌≡◌, ◌<◌, ◌≤◌, length, take};
 ghost use Rattle.places.specs.Places.{size};
 ghost use Rattle.sizes.specs.Padded.{padded};

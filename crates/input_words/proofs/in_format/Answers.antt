@@ -19,7 +19,7 @@ use mir.ValLaws.{to_z-of_z}
 use Rattle.input_words.specs.InputWords.{in_format}
 use Rattle.input_words.proofs.Complement.{complement_fits, complement_read}
 use Rattle.input_words.proofs.InputWords.{in_signed, in_unsigned}
-use Rattle.input_words.proofs.in_format.Goals.{After-signed_value-x, Start}
+use Rattle.input_words.proofs.in_format.Goals.{After-signed_value-x}
 use Rattle.input_words.proofs.in_format.Goals as goal
 
 -- a word that n bits hold is its own cut to them
@@ -44,8 +44,7 @@ to-highest c = le_z (back c.signed_value-x.result) (back (negsuc 0 -ℤ back c.l
 
 tests :
     (c : After-signed_value-x) →
-    let s : Start = (goal.at.?After-signed-value c).Start in
-    in_format s.args.f s.args.w ≡ (from_lowest c && to-highest c)
+    in_format c.args.f c.args.w ≡ (from_lowest c && to-highest c)
 tests c =
     let low = c.lowest_value-low.result in
     let x = c.signed_value-x.result in

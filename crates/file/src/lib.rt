@@ -1,4 +1,6 @@
 // The datapath file: whether it is accepted, and its operation bytes.
+#![tactic(auto)]
+
 ghost use Rattle.std.specs.Prelude.{◌≡◌};
 ghost use Rattle.file.specs.Check.{refusal_of};
 ghost use Rattle.file.specs.Stretch.{Stretch};

@@ -6,16 +6,16 @@ use Rattle.row_sums.specs.Sums.{row_sums}
 use Rattle.row_sums.proofs.add_rows.Goals as goal
 
 pub row-x-requires : goal.row-x-requires
-row-x-requires c = let o = c.before.before.requires in (o.lanes, left-row o)
+row-x-requires c = let o = c.requires in (o.lanes, left-row o)
 
 pub row-y-requires : goal.row-y-requires
-row-y-requires c = let o = c.before.before.before.before.requires in (o.lanes, right-row o)
+row-y-requires c = let o = c.requires in (o.lanes, right-row o)
 
 pub loop-l-preserved : goal.loop-l-preserved
 loop-l-preserved c =
     let l = c.loop-l.l in
     let t = c.loop-l-test.true in
-    row_step c.loop-l.invariant c.before.before.before.before.before.before.before.before.requires.room t _
+    row_step c.loop-l.invariant c.requires.room t _
     (c.wrapping_add_u64.ensures.value
     ∙ ap₂ (λ (x y : ℕ). (x + y) % 2 ^ 64) (c.row-x.ensures l t) (c.row-y.ensures l t))
 

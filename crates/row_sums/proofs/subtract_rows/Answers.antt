@@ -5,16 +5,16 @@ use Rattle.rows.proofs.Writing.{left-row, right-row, row-start, row_step, row_en
 use Rattle.row_sums.proofs.subtract_rows.Goals as goal
 
 pub row-x-requires : goal.row-x-requires
-row-x-requires c = let o = c.before.before.requires in (o.lanes, left-row o)
+row-x-requires c = let o = c.requires in (o.lanes, left-row o)
 
 pub row-y-requires : goal.row-y-requires
-row-y-requires c = let o = c.before.before.before.before.requires in (o.lanes, right-row o)
+row-y-requires c = let o = c.requires in (o.lanes, right-row o)
 
 pub loop-l-preserved : goal.loop-l-preserved
 loop-l-preserved c =
     let l = c.loop-l.l in
     let t = c.loop-l-test.true in
-    row_step c.loop-l.invariant c.before.before.before.before.before.before.before.before.requires.room t _
+    row_step c.loop-l.invariant c.requires.room t _
     (omega (arith, c.wrapping_sub_u64.ensures.value, c.row-x.ensures l t, c.row-y.ensures l t))
 
 pub loop-l-init : goal.loop-l-init

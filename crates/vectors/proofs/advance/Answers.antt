@@ -147,8 +147,8 @@ returns-then-wrapping_sub_u64-axes c =
     let add = c.wrapping_add_u64-x in
     let less = c.wrapping_sub_u64 in
     λ p h s.
-    ap (set c.loop-i.v (c.loop-i.i - 1)) (word f some _ _ add.ensures less.type-inv less.ensures)
-    ∙ up f some (omega (arith, count f some _ _ add.ensures less.type-inv less.ensures, c.if-wrapping_sub_u64-axes.true)) p h s
+    ap (set c.loop-i.v (c.loop-i.i - 1)) (word f some _ _ add.ensures.value less.type_inv less.ensures.value)
+    ∙ up f some (omega (arith, count f some _ _ add.ensures.value less.type_inv less.ensures.value, c.if-wrapping_sub_u64-axes.true)) p h s
 
 pub offset_bounds-v-i-in-loop-i : goal.offset_bounds-v-i-in-loop-i
 offset_bounds-v-i-in-loop-i c = omega (arith, few (goal.at.offset_bounds-v-i-in-loop-i c).At-loop-i c.loop-i-test.true)
@@ -162,7 +162,7 @@ loop-i-preserved c =
     let some = c.loop-i-test.true in
     let add = c.wrapping_add_u64-x in
     let less = c.wrapping_sub_u64 in
-    (rw length-set inv.0, carry inv.1 some (omega (arith, count inv.1 some _ _ add.ensures less.type-inv less.ensures, c.if-wrapping_sub_u64-axes.false)))
+    (rw length-set inv.0, carry inv.1 some (omega (arith, count inv.1 some _ _ add.ensures.value less.type_inv less.ensures.value, c.if-wrapping_sub_u64-axes.false)))
 
 pub returns : goal.returns
 returns c =

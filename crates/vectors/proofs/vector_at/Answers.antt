@@ -67,9 +67,9 @@ end p q s (suc rest) e h = absurd (omega arith)
 
 pub loop-i-init : goal.loop-i-init
 loop-i-init c =
-    let l = length-take-le c.args.d c.args.t1 (search rules) in
-    let lows : (i : ℕ) → get_or c.args.t2 i 0 < 2 ^ 64 = λ i. (let f : Fits w64 (get_or c.args.t2 i 0) = search rules in f.fits) in
-    let axes : (i : ℕ) → get_or c.args.t1 i 0 < 2 ^ 64 = λ i. (let f : Fits w64 (get_or c.args.t1 i 0) = search rules in f.fits) in
+    let l = length-take-le c.args.d c.args.axes (search rules) in
+    let lows : (i : ℕ) → get_or c.args.lows i 0 < 2 ^ 64 = λ i. (let f : Fits w64 (get_or c.args.lows i 0) = search rules in f.fits) in
+    let axes : (i : ℕ) → get_or c.args.axes i 0 < 2 ^ 64 = λ i. (let f : Fits w64 (get_or c.args.axes i 0) = search rules in f.fits) in
     start _ _ _ _ (arrays _ _ _ (search rules) (search rules) c.requires.d_le_max_inputs lows axes) l c.requires.p_bound
 
 pub nonzero_rem-rest : goal.nonzero_rem-rest
@@ -85,6 +85,6 @@ pub returns : goal.returns
 returns c =
     let f = c.loop-i.invariant in
     let e : c.loop-i.i ≡ 0 = omega arith in
-    let us = take c.args.d c.args.t1 in
+    let us = take c.args.d c.args.axes in
     let held = placed f.known f.digits _ (end _ _ _ _ (rw e at f.place) c.requires.p_bound) in
     record { words = held; integers = λ los n q. held ∙ ap (λ l. held_at l us c.args.p) q ∙ held-integers los us c.args.p n }

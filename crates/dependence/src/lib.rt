@@ -1,4 +1,6 @@
 // Which steps of an accepted file depend on one input.
+#![tactic(auto)]
+
 ghost use Rattle.std.specs.Prelude.{◌≤◌, ◌<◌, length};
 ghost use Rattle.file.specs.Accepted.{Counted};
 ghost use Rattle.dependence.specs.Dependence.{Unflagged, MayDepend, DependentListed};

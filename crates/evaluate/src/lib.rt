@@ -1,4 +1,6 @@
 // Evaluating a datapath file at a vector.
+#![tactic(auto)]
+
 ghost use Rattle.std.specs.Prelude.{◌≡◌, ◌<◌, ◌≤◌, length};
 ghost use Rattle.sizes.specs.Sizes.{Ruled};
 ghost use Rattle.evaluate.specs.Evaluate.{in_range, bad_vector, refusal_at};

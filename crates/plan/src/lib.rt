@@ -1,4 +1,6 @@
 // What is read of two comparable files once a call.
+#![tactic(auto)]
+
 ghost use Rattle.std.specs.Prelude.{◌≡◌};
 ghost use Rattle.fields.specs.File.{sizes_of};
 ghost use Rattle.plan.specs.Comparison.{Comparable};

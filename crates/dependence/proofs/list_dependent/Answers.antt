@@ -8,22 +8,12 @@ use Prim.Native.Nat.{ℕ, ◌+◌, ◌-◌, ◌≤◌, ◌<◌}
 use native.Mathlib.Decide.{ℕ_discrete}
 use native.Mathlib.Omega.{arith}
 use borrow.Author.Count.{below_none, below_more}
-use borrow.Author.Rules.{rules}
 use lib.ListN.{length, get_or, drop, set, length-set}
 use lib.Seq.{get_or-set_same, get_or-set_other, drop-set-lt}
-use Rattle.dependence.specs.Dependence.{Fixed, Listed, Rest}
-use Rattle.dependence.proofs.list_dependent.Statement.{statement}
-use Rattle.dependence.proofs.list_dependent.Tie as tie
-
-record Gathered (s : List ℕ) (n j : ℕ) (flags₀ list₀ flags list : List ℕ) (count k : ℕ) : Type 0 where
-  within : k ≤ n
-  few : count ≤ k
-  long_flags : length flags ≡ length flags₀
-  long_list : length list ≡ length list₀
-  listed : Listed k list count
-  rest : Rest s j k list count
-  flagged : (i : ℕ) → i < k → get_or flags i 0 ≡ 0 → Fixed s j i
-  kept : drop n flags ≡ drop n flags₀
+use Rattle.dependence.specs.Dependence.{Fixed}
+use Rattle.dependence.proofs.list_dependent.Invariants.{Gathered}
+use Rattle.dependence.proofs.list_dependent.Goals.{then-may_depend, else-may_depend}
+use Rattle.dependence.proofs.list_dependent.Goals as goal
 
 none : (s : List ℕ) (n j : ℕ) (flags list : List ℕ) → Gathered s n j flags list flags list 0 0
 none s n j flags list =
@@ -105,87 +95,40 @@ module _
           kept = drop-set-lt n flags k 0 t ∙ r.kept;
         }
 
-abbrev invariant-loop : tie.invariant-loop
-invariant-loop file n j flags₀ list₀ count₀ k₀ flags list count k = Gathered file n j flags₀ list₀ flags list count k
+pub loop-k-init : goal.loop-k-init
+loop-k-init c = none _ _ _ _ _
 
-abbrev decreases-loop : tie.decreases-loop
-decreases-loop file n j flags₀ list₀ count₀ k₀ flags list count k = n - k
+pub may_depend-requires : goal.may_depend-requires
+may_depend-requires c = record { counted = c.requires.counted; k_lt_n = (c.loop-k-test.true, omega (arith, c.loop-k.invariant.long_flags)) }
 
-loop-holds : tie.Need-loop-init invariant-loop decreases-loop
-loop-holds c = none _ _ _ _ _
+pub bounds-flags-k : goal.bounds-flags-k
+bounds-flags-k c = omega (arith, c.loop-k.invariant.long_flags)
 
-may-depend-requires : tie.Need-may-depend-requires invariant-loop decreases-loop
-may-depend-requires c κs =
-    let p = c.before.before.before.before.before.before.requires in
-    (p.0, (c.before.loop-test.true, omega (arith, c.before.before.loop.invariant.long_flags)))
+pub bounds-list-count : goal.bounds-list-count
+bounds-list-count c = omega (arith, c.loop-k.invariant.long_list, c.loop-k.invariant.few)
 
-mul-flags : tie.Need-overflow-mul-flags invariant-loop decreases-loop
-mul-flags c = search rules
+pub bounds-flags-k-else-may_depend : goal.bounds-flags-k-else-may_depend
+bounds-flags-k-else-may_depend c = omega (arith, c.loop-k.invariant.long_flags)
 
-slice-write-flags : tie.Need-slice-write-flags invariant-loop decreases-loop
-slice-write-flags c = omega (arith, c.before.before.before.before.loop.invariant.long_flags)
+pub loop-k-preserved : goal.loop-k-preserved
+loop-k-preserved c =
+    let inv = c.loop-k.invariant in
+    let t = c.loop-k-test.true in
+    elim c.if-may_depend.branch [
+      | then-may_depend w ↦ rw (w.flags-is, w.list-is, w.count-is) (taken _ _ _ _ _ _ _ _ _ inv t c.requires.n_in_bounds.0 c.requires.n_in_bounds.1)
+      | else-may_depend w ↦
+          rw (w.flags-is, w.list-is, w.count-is)
+          (left _ _ _ _ _ _ _ _ _ inv t c.requires.n_in_bounds.0 c.requires.n_in_bounds.1 (c.may_depend.ensures inv.flagged w.if-may_depend.false))
+    ]
 
-mul-list : tie.Need-overflow-mul-list invariant-loop decreases-loop
-mul-list c = search rules
+pub shape_of-flags : goal.shape_of-flags
+shape_of-flags c = c.loop-k.invariant.long_flags
 
-slice-write-list : tie.Need-slice-write-list invariant-loop decreases-loop
-slice-write-list c = omega (arith, c.before.before.before.before.loop.invariant.long_list, c.before.before.before.before.loop.invariant.few)
+pub shape_of-list : goal.shape_of-list
+shape_of-list c = c.loop-k.invariant.long_list
 
-add-count : tie.Need-overflow-add-count invariant-loop decreases-loop
-add-count c = search rules
-
-mul-flags-2 : tie.Need-overflow-mul-flags-2 invariant-loop decreases-loop
-mul-flags-2 c = search rules
-
-slice-write-flags-2 : tie.Need-slice-write-flags-2 invariant-loop decreases-loop
-slice-write-flags-2 c = omega (arith, c.before.before.before.before.loop.invariant.long_flags)
-
-add-k : tie.Need-overflow-add-k invariant-loop decreases-loop
-add-k c = search rules
-
-loop-less : tie.Need-loop-smaller invariant-loop decreases-loop
-loop-less c = search rules
-
-loop-again : tie.Need-loop-preserved invariant-loop decreases-loop
-loop-again c =
-    let inv = c.before.before.before.before.loop.invariant in
-    let t = c.before.before.before.loop-test.true in
-    let p = c.before.before.before.before.before.before.before.before.requires in
-    ⊎_elim
-    (λ w. rw (w.1, w.2, w.3) (taken _ _ _ _ _ _ _ _ _ inv t p.1.0 p.1.1))
-    (λ w. rw (w.1, w.2, w.3) (left _ _ _ _ _ _ _ _ _ inv t p.1.0 p.1.1 (c.before.may-depend.ensures inv.flagged w.0.left)))
-    c.if1.branch
-
-same_length : tie.Need-same-length invariant-loop decreases-loop
-same_length c = c.before.loop.invariant.long_flags
-
-same-length-2 : tie.Need-same-length-2 invariant-loop decreases-loop
-same-length-2 c = c.before.loop.invariant.long_list
-
-returns : tie.Need-returns invariant-loop decreases-loop
+pub returns : goal.returns
 returns c =
-    let inv = c.before.loop.invariant in
-    let e : c.before.loop.k ≡ c.before.before.before.before.before.args.n = omega (arith, inv.within) in
+    let inv = c.loop-k.invariant in
+    let e : c.loop-k.k ≡ c.args.n = omega (arith, inv.within) in
     record { listed = rw (← e) inv.listed; rest = rw (← e) inv.rest; kept = inv.kept }
-
-pub list-dependent-spec : {M : Type 1} → statement M
-list-dependent-spec =
-    tie.close
-    (tie.spec
-    invariant-loop
-    decreases-loop
-    loop-holds
-    may-depend-requires
-    mul-flags
-    slice-write-flags
-    mul-list
-    slice-write-list
-    add-count
-    mul-flags-2
-    slice-write-flags-2
-    add-k
-    loop-less
-    loop-again
-    same_length
-    same-length-2
-    returns)

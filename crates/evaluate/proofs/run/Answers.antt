@@ -1,7 +1,7 @@
 -- `evaluate::run` meets its contract. The loop's invariant: the first k scratch entries hold the values of the first k steps, the others are
 -- as at entry.
 -- Assumes nothing.
-use Rattle.std.proofs.Common.{◌≡◌, ℕ, ◌+◌, ◌-◌, ◌<◌, ◌≤◌, List, [], ◌∷◌, ◌++◌, map, length, get_or, drop, set, sym, refl, ap, ◌∙◌, ap₂, arith, length-drop, length-set, drop-drop, take_at, rules}
+use Rattle.std.proofs.Common.{◌≡◌, ℕ, ◌+◌, ◌-◌, ◌<◌, List, [], ◌∷◌, ◌++◌, map, length, get_or, drop, set, sym, refl, ap, ◌∙◌, ap₂, arith, length-drop, length-set, drop-drop, take_at}
 use lib.ListN.{length-map}
 use Rattle.fields.specs.Steps.{step_at, steps_of}
 use Rattle.fields.proofs.Steps.{steps-at}
@@ -11,13 +11,8 @@ use Rattle.datapath.specs.declared.Step.TheVariants.{Constant}
 use Rattle.datapath.proofs.Values.{length-values, values-step}
 use Rattle.words.specs.Words.{word, plain}
 use Rattle.evaluate.specs.Run.{Ready, Running}
-use Rattle.evaluate.proofs.run.Statement.{statement}
-use Rattle.evaluate.proofs.run.Tie as tie
-
-record Held (s : List ℕ) (n : ℕ) (x scratch₀ scratch : List ℕ) (k : ℕ) : Type 0 where
-  within : k ≤ n
-  long : length scratch ≡ length scratch₀
-  words : scratch ≡ map word (values (steps_of s) (plain x) k) ++ drop k scratch₀
+use Rattle.evaluate.proofs.run.Invariants.{Held}
+use Rattle.evaluate.proofs.run.Goals as goal
 
 module _ (s : List ℕ) (n : ℕ) (x scratch₀ scratch : List ℕ) (k : ℕ) (r : Ready s n x scratch₀) (h : Held s n x scratch₀ scratch k) where
   front : length (map word (values (steps_of s) (plain x) k)) ≡ k
@@ -52,54 +47,17 @@ module _ (s : List ℕ) (n : ℕ) (x scratch₀ scratch : List ℕ) (k : ℕ) (r
           set_front (map word (values (steps_of s) (plain x) k)) (drop k scratch₀) k v front some
           ∙ ap₂ ◌++◌ (sym next) (drop-drop 1 k scratch₀)
 
-abbrev invariant-loop : tie.invariant-loop
-invariant-loop file n vector scratch₀ k₀ scratch k = Held file n vector scratch₀ scratch k
-
-abbrev decreases-loop : tie.decreases-loop
-decreases-loop file n vector scratch₀ k₀ scratch k = n - k
-
-loop-holds : tie.Need-loop-init invariant-loop decreases-loop
+pub loop-k-init : goal.loop-k-init
 unfolding values
-loop-holds c = record { within = omega arith; long = refl; words = refl }
+loop-k-init c = record { within = omega arith; long = refl; words = refl }
 
-step-word-requires : tie.Need-step-word-requires invariant-loop decreases-loop
-step-word-requires c κs = (running _ _ _ _ _ _ c.before.before.before.before.before.before.requires c.before.before.loop.invariant, c.before.loop-test.true)
+pub step_word-v-requires : goal.step_word-v-requires
+step_word-v-requires c = record { running = running _ _ _ _ _ _ c.requires c.loop-k.invariant; k_lt_n = c.loop-k-test.true }
 
-mul-scratch : tie.Need-overflow-mul-scratch invariant-loop decreases-loop
-mul-scratch c = search rules
+pub loop-k-preserved : goal.loop-k-preserved
+loop-k-preserved c = more _ _ _ _ _ _ c.requires c.loop-k.invariant _ c.loop-k-test.true c.step_word-v.ensures
 
-slice-write-scratch : tie.Need-slice-write-scratch invariant-loop decreases-loop
-slice-write-scratch c = search rules
-
-add-k : tie.Need-overflow-add-k invariant-loop decreases-loop
-add-k c = search rules
-
-loop-less : tie.Need-loop-smaller invariant-loop decreases-loop
-loop-less c = search rules
-
-loop-again : tie.Need-loop-preserved invariant-loop decreases-loop
-loop-again c = more _ _ _ _ _ _ c.before.before.before.before.before.before.before.requires c.before.before.before.loop.invariant _ c.before.before.loop-test.true c.step-word.ensures
-
-same_length : tie.Need-same-length invariant-loop decreases-loop
-same_length c = search rules
-
-returns : tie.Need-returns invariant-loop decreases-loop
+pub returns : goal.returns
 returns c =
-    let e : c.before.loop.k ≡ c.before.before.before.before.before.args.n = omega (arith, c.before.loop.invariant.within) in
-    rw (← e) c.before.loop.invariant.words
-
-pub run_spec : {M : Type 1} → statement M
-run_spec =
-    tie.close
-    (tie.spec
-    invariant-loop
-    decreases-loop
-    loop-holds
-    step-word-requires
-    mul-scratch
-    slice-write-scratch
-    add-k
-    loop-less
-    loop-again
-    same_length
-    returns)
+    let e : c.loop-k.k ≡ c.args.n = omega (arith, c.loop-k.invariant.within) in
+    rw (← e) c.loop-k.invariant.words

@@ -1,6 +1,8 @@
 // The steps of an accepted file run at several vectors at once, a lane of the rows for each: all steps, or those
 // alone that depend on one input. The loops over the steps are called with the constants LANES and FEW_LANES, so that
 // they are compiled for each.
+#![tactic(auto)]
+
 ghost use Rattle.std.specs.Prelude.{◌≤◌, ◌<◌};
 ghost use Rattle.dependence.specs.Dependence.{Listed};
 ghost use Rattle.rows.specs.Rows.{Operands};

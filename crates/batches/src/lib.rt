@@ -1,4 +1,6 @@
 // Two comparable files compared in batches of consecutive places of the grid, a lane for each.
+#![tactic(auto)]
+
 ghost use Rattle.std.specs.Prelude.{◌*◌, ◌≤◌, ◌<◌, length, take};
 ghost use Rattle.places.specs.Places.{size};
 ghost use Rattle.plan.specs.Comparison.{Found};

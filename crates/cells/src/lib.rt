@@ -1,4 +1,6 @@
 // What differencing and summing refuse beside sizes: slices that are too short, and cells that are too large.
+#![tactic(auto)]
+
 ghost use Rattle.std.specs.Prelude.{◌≡◌, ◌≤◌, length};
 ghost use Rattle.cells.specs.Cells.{large_cell, bad_cells};
 

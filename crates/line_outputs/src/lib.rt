@@ -1,5 +1,7 @@
 // A file run along several lines of the grid, a lane for each: its outputs saved, or compared with saved ones. Along
 // a line only the last input changes, and only the steps that depend on it are computed again.
+#![tactic(auto)]
+
 ghost use Rattle.std.specs.Prelude.{◌*◌, ◌≤◌, length};
 ghost use Rattle.dependence.specs.Dependence.{Listed};
 ghost use Rattle.lanes.specs.Lanes.{Room, LanesOnGrid};

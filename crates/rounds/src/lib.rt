@@ -1,6 +1,8 @@
 // Differencing and summing along one axis, in place: the cells of every line are joined with their neighbours, in u −
 // 1 rounds for an axis u. With the later axes' size w as stride, the lines of one block of u · w cells are worked
 // side by side.
+#![tactic(auto)]
+
 ghost use Rattle.std.specs.Prelude.{◌≡◌, ◌*◌, ◌%◌, ◌<◌, ◌≤◌, length, pos, ◌+ℤ◌, ◌*ℤ◌};
 ghost use Rattle.words.specs.Words.{word};
 ghost use Rattle.rounds.specs.Passes.{factor, rounded, passed};

@@ -1,4 +1,6 @@
 // Differencing and summing over a grid, in place: along each axis in turn, the last first, and then the cut to m bits.
+#![tactic(auto)]
+
 ghost use Rattle.std.specs.Prelude.{◌≡◌, map, ◌++◌, ℕ, ◌%◌, ◌^◌, ◌≤◌, length, take, drop};
 ghost use Rattle.differences.specs.Table.{listed, given};
 ghost use Rattle.differences.specs.Neighbours.{mixed};

@@ -1,5 +1,7 @@
 // Writing bytes, decimal numbers and the values of inputs into a text slice, from an index on. Each function answers
 // the index after what it wrote.
+#![tactic(auto)]
+
 ghost use Rattle.std.specs.Prelude.{pos, [], ◌∷◌, ◌++◌, map, ◌≡◌};
 ghost use Rattle.std.specs.Int.Signed.{lt_z};
 ghost use Rattle.formats.specs.Bytes.{format_of};

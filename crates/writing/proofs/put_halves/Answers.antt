@@ -1,0 +1,33 @@
+-- `writing::put_halves` meets its contract: the line is its first half up to the sign, and the numbers after that as a line. Assumes nothing.
+use mathlib.Core.List.{◌++◌}
+use borrow.Author.Rules.{rules}
+use Rattle.text.specs.Text.{line, spaced}
+use Rattle.text.specs.Writing.{RoomFor}
+use Rattle.text.proofs.Over.{room-first, room-second, put_then}
+use Rattle.text.proofs.Spaced.{line-halves}
+use Rattle.writing.proofs.put_halves.Goals.{After-shared_slice_known-1, Start}
+use Rattle.writing.proofs.put_halves.Goals as goal
+
+-- the room for the line, in the two parts that are written
+room :
+    (s : Start) →
+    let a = s.args in
+    RoomFor (a.word.now ++ spaced a.ns.now ++ a.sign.now ++ line (spaced a.ms.now)) a.text.now a.at
+room s = rw line-halves at s.requires
+
+pub put_words-next-requires : goal.put_words-next-requires
+put_words-next-requires c = room-first _ _ (room (goal.at.put_words-next-requires c).Start)
+
+-- UNPLACED slice-aggregate-put-words
+-- slice-aggregate-put-words : tie.Need-slice-aggregate-put-words
+-- slice-aggregate-put-words c = search rules
+
+-- UNPLACED slice-aggregate-put-words-2
+-- slice-aggregate-put-words-2 : tie.Need-slice-aggregate-put-words-2
+-- slice-aggregate-put-words-2 c = search rules
+
+pub put_words-requires : goal.put_words-requires
+put_words-requires c = room-second (room (goal.at.put_words-requires c).After-shared_slice_known-1) c.put_words-next.ensures
+
+pub returns : goal.returns
+returns c = rw line-halves (put_then (room (goal.at.returns c).After-shared_slice_known-1) c.put_words-next.ensures c.put_words.ensures)

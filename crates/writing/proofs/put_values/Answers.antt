@@ -1,0 +1,80 @@
+-- `writing::put_values` meets its contract. The loop's invariant: the first i values are written, up to the next index. It ends where there are
+-- no more width bytes, or no more words, and so no more values.
+-- Assumes nothing.
+use mathlib.Core.Path.{◌≡◌, refl}
+use Prim.Native.Nat.{◌-◌, ◌≤◌, ◌<◌}
+use native.Mathlib.Omega.{arith}
+use borrow.Author.Rules.{rules}
+use borrow.Author.Tests.{ltb-true, ltb-false}
+use lib.IntN.{pos}
+use lib.ListN.{length, get_or}
+use lib.Seq.{take_all}
+use Rattle.formats.specs.Bytes.{format_of}
+use Rattle.input_words.specs.InputWords.{value_of}
+use Rattle.text.specs.Decimal.{integer}
+use Rattle.text.specs.Text.{spaced_by, spaced_integers}
+use Rattle.text.specs.Writing.{Put}
+use Rattle.text.proofs.Over.{room-second, put-start, put_then}
+use Rattle.text.proofs.Spaced.{spaced-step, spaced-room}
+use Rattle.writing.proofs.Values.{length-written, written_entry}
+use Rattle.writing.proofs.put_values.Goals.{After-format_of, At-loop-i, Then-i-ws}
+use Rattle.writing.proofs.put_values.Invariants.{values, written}
+use Rattle.writing.proofs.put_values.Goals as goal
+
+-- the second test of the loop, as an order of numbers
+another : (c : Then-i-ws) → c.loop-i.i < length c.args.ws.now
+another c = ltb-true _ _ c.if-i-ws.true
+
+-- where both have passed there is a value more
+more : (c : Then-i-ws) → c.loop-i.i < length (written (goal.at.?Then1 c).At-loop-i)
+more c =
+    let a = c.args in
+    omega (arith, length-written a.widths.now a.ws.now, c.loop-i-test.true, another c)
+
+-- and its word gives it, from the place where its format is known
+value :
+    (c : After-format_of) →
+    get_or (written (goal.at.offset_bounds-ws-i c).At-loop-i) c.loop-i.i (pos 0) ≡ value_of c.format_of.result (get_or c.args.ws.now c.loop-i.i 0)
+value c =
+    let a = c.args in
+    rw c.format_of.ensures (written_entry a.widths.now a.ws.now c.loop-i.i c.loop-i-test.true (another (goal.at.offset_bounds-ws-i c).Then-i-ws))
+
+-- all values are written where there are no more of them
+all :
+    (turn : At-loop-i) →
+    let a = turn.args in
+    length (written turn) ≤ turn.loop-i.i → Put (spaced_integers (written turn)) a.text.now turn.loop-i.text a.at turn.loop-i.next
+all turn h = rw (take_all turn.loop-i.i (written turn) h) at turn.loop-i.invariant.2
+
+pub loop-i-init : goal.loop-i-init
+unfolding spaced_by
+loop-i-init c = (omega arith, refl, put-start _ _)
+
+pub put_value-next-requires : goal.put_value-next-requires
+put_value-next-requires c =
+    rw (value (goal.at.put_value-next-requires c).After-format_of) at
+    (room-second (spaced-room integer (written (goal.at.put_value-next-requires c).At-loop-i) c.loop-i.i (pos 0) (more (goal.at.put_value-next-requires c).Then-i-ws) c.requires) c.loop-i.invariant.2)
+
+pub loop-i-preserved : goal.loop-i-preserved
+loop-i-preserved c =
+    let i = c.loop-i.i in
+    let room = spaced-room integer (written (goal.at.loop-i-preserved c).At-loop-i) i (pos 0) (more (goal.at.loop-i-preserved c).Then-i-ws) c.requires in
+    let put = rw (← value (goal.at.loop-i-preserved c).After-format_of) at c.put_value-next.ensures in (
+      omega (arith, more (goal.at.loop-i-preserved c).Then-i-ws),
+      search rules,
+      rw (spaced-step integer (written (goal.at.loop-i-preserved c).At-loop-i) i (pos 0) (more (goal.at.loop-i-preserved c).Then-i-ws)) (put_then room c.loop-i.invariant.2 put),
+    )
+
+pub returns-else-i-ws : goal.returns-else-i-ws
+returns-else-i-ws c =
+    let a = c.args in
+    let end : length a.ws.now ≤ c.loop-i.i = ltb-false _ _ c.if-i-ws.false in
+    all (goal.at.returns-else-i-ws c).At-loop-i (omega (arith, length-written a.widths.now a.ws.now))
+
+pub returns-after-loop-i : goal.returns-after-loop-i
+returns-after-loop-i c =
+    let a = c.args in
+    all (goal.at.returns-after-loop-i c).At-loop-i (omega (arith, length-written a.widths.now a.ws.now, c.loop-i-test.false))
+
+pub offset_bounds-ws-i : goal.offset_bounds-ws-i
+offset_bounds-ws-i c = search rules

@@ -1,4 +1,6 @@
 // The engine: two files compared over the places of the grid.
+#![tactic(auto)]
+
 ghost use Rattle.std.specs.Prelude.{◌≡◌, ◌+◌, ◌*◌, ◌≤◌, max, length};
 ghost use Rattle.lanes.specs.Lanes.{Width};
 ghost use Rattle.plan.specs.Comparison.{Searched};

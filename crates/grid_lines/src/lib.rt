@@ -1,4 +1,6 @@
 // Two comparable files compared along several lines of the grid, a lane for each.
+#![tactic(auto)]
+
 ghost use Rattle.std.specs.Prelude.{◌≡◌, true, false};
 ghost use Rattle.batches.specs.Prepared.{Prepared};
 ghost use Rattle.grid_lines.specs.Lines.{Dependents, Fronts, Agreeing};

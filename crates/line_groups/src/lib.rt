@@ -1,4 +1,6 @@
 // Whole lines of the grid compared as many at a time as there are lanes, one group after another.
+#![tactic(auto)]
+
 ghost use Rattle.std.specs.Prelude.{◌*◌, ◌≤◌, take};
 ghost use Rattle.batches.specs.Prepared.{Prepared};
 ghost use Rattle.grid_lines.specs.Lines.{last_axis};

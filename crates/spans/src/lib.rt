@@ -1,5 +1,7 @@
 // Two comparable files compared over a span of the grid's places: whole lines of the grid several at a time, and what
 // stands before and after them in batches.
+#![tactic(auto)]
+
 ghost use Rattle.std.specs.Prelude.{◌≡◌, ◌-◌, ◌≤◌, ◌<◌, max, take};
 ghost use Rattle.batches.specs.Prepared.{Prepared};
 ghost use Rattle.line_groups.specs.Groups.{Lists};

@@ -1,4 +1,6 @@
 // Two comparable files compared place by place.
+#![tactic(auto)]
+
 ghost use Rattle.std.specs.Prelude.{max};
 ghost use Rattle.evaluate.specs.Run.{Ready};
 ghost use Rattle.lanes.specs.Lanes.{VectorOnGrid};

@@ -1,4 +1,6 @@
 // The difference table of a file. Document 01's number G is the size of the grid.
+#![tactic(auto)]
+
 ghost use Rattle.file_tables.specs.FileTables.{TableMade};
 ghost use Rattle.file_tables.specs.Filling.{Filling, OutputsFilled, TableFilling, TableFilled};
 

@@ -1,5 +1,7 @@
 // The difference table of given outputs, and the outputs that a table sums to. Document 01's number G is the size of
 // the grid.
+#![tactic(auto)]
+
 ghost use Rattle.tables.specs.Tables.{CellsCall};
 
 use cells::bad_cells;

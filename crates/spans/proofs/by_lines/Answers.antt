@@ -48,7 +48,7 @@ middle : (c : Else-between-wide) → let a = c.args in Middle (last_axis a.plan)
 middle c =
     let a = c.args in
     let order : c.lines_from-start.result ≤ a.span.end / last_axis a.plan =
-    omega (arith, c.if-between-wide.left, c.between.ensures, width-least c.requires.prepared.width) in
+    omega (arith, c.if-between-wide.false, c.between.ensures, width-least c.requires.prepared.width) in
     record { order = order; after = c.lines_from-start.ensures.low; before = line-most (last_axis a.plan) a.span.end _ order }
 
 pub overflow_sub-u : goal.overflow_sub-u
@@ -102,7 +102,7 @@ pub returns-then-found-head : goal.returns-then-found-head
 returns-then-found-head c =
     let mid = middle (goal.at.returns-then-found-head c).Else-between-wide in
     record {
-      c.by_batches-found.ensures =
+      found =
           c.by_batches-found.ensures
           ∙ sym (first_part _ _ _ c.args.span.end (omega (arith, c.by_batches-found.ensures, c.if-found-head.true, mid.after)) (omega (arith, mid.after, mid.before)));
       kept = refl;
@@ -111,7 +111,7 @@ returns-then-found-head c =
 pub agreed_lines-line-requires : goal.agreed_lines-line-requires
 agreed_lines-line-requires c =
     let a = c.args in
-    let kept = c.by_batches-found.auto in record { prepared = prepared_kept c.requires.prepared _ _ kept.1.1.1.1.1.1.0 kept.1.1.1.1.1.1.1.0; lists = c.requires.lists; from_le_end = ((middle (goal.at.agreed_lines-line-requires c).Else-between-wide).order, le_trans (line-most (last_axis a.plan) a.span.end _ (le_refl _)) c.requires.from_lt_end.1) }
+    let kept = c.by_batches-found.auto in record { prepared = prepared_kept c.requires.prepared _ _ kept.rows kept.other; lists = c.requires.lists; from_le_end = ((middle (goal.at.agreed_lines-line-requires c).Else-between-wide).order, le_trans (line-most (last_axis a.plan) a.span.end _ (le_refl _)) c.requires.from_lt_end.1) }
 
 pub overflow_mul-line : goal.overflow_mul-line
 overflow_mul-line c = omega (arith, line-most (last_axis c.args.plan) c.args.span.end c.agreed_lines-line.result c.agreed_lines-line.ensures.high, end_fits (goal.at.overflow_mul-line c).Start)
@@ -119,7 +119,7 @@ overflow_mul-line c = omega (arith, line-most (last_axis c.args.plan) c.args.spa
 pub by_batches-requires-2 : goal.by_batches-requires-2
 by_batches-requires-2 c =
     let kept = c.by_batches-found.auto in
-    record { prepared = prepared_kept c.requires.prepared _ _ (c.agreed_lines-line.auto.rows ∙ kept.1.1.1.1.1.1.0) (c.agreed_lines-line.auto.other ∙ kept.1.1.1.1.1.1.1.0); from_le_end = (line-most (last_axis c.args.plan) c.args.span.end c.agreed_lines-line.result c.agreed_lines-line.ensures.high, c.requires.from_lt_end.1) }
+    record { prepared = prepared_kept c.requires.prepared _ _ (c.agreed_lines-line.auto.rows ∙ kept.rows) (c.agreed_lines-line.auto.other ∙ kept.other); from_le_end = (line-most (last_axis c.args.plan) c.args.span.end c.agreed_lines-line.result c.agreed_lines-line.ensures.high, c.requires.from_lt_end.1) }
 
 pub shape_of-rows : goal.shape_of-rows
 shape_of-rows c = c.by_batches-2.auto.rows ∙ c.agreed_lines-line.auto.rows ∙ c.by_batches-found.auto.rows
@@ -138,7 +138,7 @@ shape_of-flags c = c.agreed_lines-line.auto.flags
 
 pub returns : goal.returns
 returns c =
-    let past = c.if-found-head.left in
+    let past = c.if-found-head.false in
     let a = c.args in
     let u = last_axis a.plan in
     record {

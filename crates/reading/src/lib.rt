@@ -1,5 +1,7 @@
 // Judging what reading answers: what one read comes to, and whether the program was given names of files that it may
 // read. No contract can say what a read brings: these say what becomes of what it answers.
+#![tactic(auto)]
+
 ghost use Rattle.std.specs.Prelude.{◌≡◌, ◌+◌, ◌^◌, ◌<◌, length};
 ghost use Rattle.reading.specs.Reading.{none_or_two, failed_read, after_read, no_bytes};
 

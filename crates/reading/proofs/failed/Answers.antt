@@ -6,15 +6,11 @@ use lib.Signed.{lt_z}
 use borrow.Author.Tests.{le-ltb}
 use mir.Facts.{to_z-of_z}
 use Rattle.reading.specs.Reading.{failed_read}
-use Rattle.reading.proofs.failed.Statement.{statement}
-use Rattle.reading.proofs.failed.Tie as tie
+use Rattle.reading.proofs.failed.Goals as goal
 
 below : (z : ℤ) → lt_z z (pos 0) ≡ failed_read z
 below (pos k) = le-ltb k 0 (omega arith)
 below (negsuc k) = refl
 
-returns : tie.Need-returns
+pub returns : goal.returns
 returns c = ap (λ z. lt_z z (pos 0)) (to_z-of_z c.ranges.got) ∙ below c.args.got
-
-pub failed-spec : {M : Type 1} → statement M
-failed-spec = tie.close (tie.spec returns)

@@ -1,4 +1,6 @@
 // An accepted continue call: the vectors run, and what they come to.
+#![tactic(auto)]
+
 ghost use Rattle.std.specs.Prelude.{◌≡◌, ◌≤◌, ◌<◌, min, max, length};
 ghost use Rattle.plan.specs.Plan.{Planned};
 ghost use Rattle.sessions.specs.Session.{plain_answer, moved_to};

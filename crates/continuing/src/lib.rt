@@ -1,4 +1,6 @@
 // Continuing a session on two files under a budget.
+#![tactic(auto)]
+
 ghost use Rattle.std.specs.Prelude.{◌≡◌};
 ghost use Rattle.fields.specs.File.{sizes_of};
 ghost use Rattle.plan.specs.Plan.{Planned};

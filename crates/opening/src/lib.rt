@@ -1,4 +1,6 @@
 // Opening a session on two files.
+#![tactic(auto)]
+
 ghost use Rattle.std.specs.Prelude.{◌≡◌};
 ghost use Rattle.sessions.specs.Session.{same_sizes, pair_refusal, no_session, opened};
 

@@ -1,5 +1,7 @@
 // Sessions: what they hold and what calls on them answer. The meaning of the calls: definitions in specs/, laws in
 // proofs/. No functions.
+#![tactic(auto)]
+
 use sizes::{INPUTS, Refusal, Sizes};
 
 // How far a comparison has come: still open, or closed by a verdict.

@@ -88,7 +88,7 @@ copy_front-requires c =
     (omega (arith, e, f.read), omega (arith, e, f.written))
 
 pub transform_front-requires : goal.transform_front-requires
-transform_front-requires c = lent _ (widths (goal.at.transform_front-requires c).Else-number-ne0) (sound (goal.at.transform_front-requires c).Else-number-ne0) c.grid_of-g.result c.grid_of-g.ensures _ (omega (arith, (taken (goal.at.transform_front-requires c).Else-bad_cells).ranges.written, c.copy_front.auto.to))
+transform_front-requires c = lent _ (widths (goal.at.transform_front-requires c).Else-number-ne0) (sound (goal.at.transform_front-requires c).Else-number-ne0) c.grid_of-g.result c.grid_of-g.ensures _ (omega (arith, (taken (goal.at.transform_front-requires c).Else-bad_cells).fits.written, c.copy_front.auto.to))
 
 pub grid_of-g-requires : goal.grid_of-g-requires
 grid_of-g-requires c = sound c

@@ -37,13 +37,13 @@ later :
     (c : After-room_refusal-later) →
     let a = c.args in
     c.room_refusal-later.result ≡ continue_refusal a.file1.now a.file2.now a.session a.budget (length a.scratch.now)
-later c = c.room_refusal-later.ensures ∙ sym (cases.refused-by-room _ _ _ _ _ (free (goal.at.?After-room-refusal c).Else-number-ne0))
+later c = c.room_refusal-later.ensures ∙ sym (cases.refused-by-room _ _ _ _ _ ((let free' : let a = c.args in is_refusal (files_refusal a.file1.now a.file2.now a.budget) ≡ false = rw (eq-eqb _ 0 (sym (ap (λ (r : Refusal). r.number) c.files_refusal-refusal.ensures) ∙ c.if-number-ne0.false)) in free')))
 
 accepting :
     (c : Else-second-ne0) →
     let a = c.args in
     is_refusal (continue_refusal a.file1.now a.file2.now a.session a.budget (length a.scratch.now)) ≡ false
-accepting c = rw (eq-eqb _ 0 (sym (ap (λ (r : Refusal). r.number) (later (goal.at.?Else2 c).After-room_refusal-later)) ∙ c.if-second-ne0.false))
+accepting c = rw (eq-eqb _ 0 (sym (ap (λ (r : Refusal). r.number) ((let later' : let a = c.args in c.room_refusal-later.result ≡ continue_refusal a.file1.now a.file2.now a.session a.budget (length a.scratch.now) = c.room_refusal-later.ensures ∙ sym (cases.refused-by-room _ _ _ _ _ ((let free' : let a = c.args in is_refusal (files_refusal a.file1.now a.file2.now a.budget) ≡ false = rw (eq-eqb _ 0 (sym (ap (λ (r : Refusal). r.number) c.files_refusal-refusal.ensures) ∙ c.if-number-ne0.false)) in free'))) in later'))) ∙ c.if-second-ne0.false))
 
 pass : (c : Else-second-ne0) → let a = c.args in Passed a.file1.now a.file2.now a.session a.budget (length a.scratch.now)
 pass c = passed _ _ _ _ _ (accepting c)
@@ -53,7 +53,7 @@ counted :
     let a = c.args in
     max c.plan_of-plan.result.n1 c.plan_of-plan.result.n2 ≡ larger_count a.file1.now a.file2.now
 counted c =
-    let k = planned (goal.at.?Else2 c).After-plan_of-plan in
+    let k = (let planned' : let a = c.args in Planned a.file1.now a.file2.now c.plan_of-plan.result = record { files = (let both' : let a = c.args in Comparable a.file1.now a.file2.now = let a = c.args in comparable _ _ (cases.files-passed _ _ a.session _ (length a.scratch.now) ((let free' : let a = c.args in is_refusal (files_refusal a.file1.now a.file2.now a.budget) ≡ false = rw (eq-eqb _ 0 (sym (ap (λ (r : Refusal). r.number) c.files_refusal-refusal.ensures) ∙ c.if-number-ne0.false)) in free'))) in both'); plan = c.plan_of-plan.ensures } in planned') in
     ap₂ max (plan.count₁ k) (plan.count₂ k)
 
 pub returns-then-number-ne0 : goal.returns-then-number-ne0

@@ -1,4 +1,6 @@
 // The answers of continue calls as words, read and written.
+#![tactic(auto)]
+
 ghost use Rattle.std.specs.Prelude.{true, ◌≡◌, length};
 ghost use Rattle.layouts.specs.Lengths.{answer_length};
 ghost use Rattle.layouts.specs.AnswerWords.{

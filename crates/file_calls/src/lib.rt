@@ -1,5 +1,7 @@
 // The calls on one file, in words: checking, finding the operation bytes, evaluating. Each returns 1 where its layout
 // is right, and 0, with nothing touched, where it is not.
+#![tactic(auto)]
+
 ghost use Rattle.file_calls.specs.FileCalls.{
   CheckCall,
   OperationsCall,

@@ -1,4 +1,6 @@
 // Refusals as words, written.
+#![tactic(auto)]
+
 ghost use Rattle.std.specs.Prelude.{◌≡◌, ◌≤◌, length};
 ghost use Rattle.layouts.specs.AnswerWords.{refusal_words};
 ghost use Rattle.layouts.specs.Lengths.{refusal_length};

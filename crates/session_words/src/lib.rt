@@ -1,4 +1,6 @@
 // Sessions as words, read and written: the sizes, position and mark.
+#![tactic(auto)]
+
 ghost use Rattle.std.specs.Prelude.{true, ◌≡◌, length};
 ghost use Rattle.layouts.specs.Lengths.{session_length};
 ghost use Rattle.layouts.specs.SessionWords.{

@@ -1,4 +1,6 @@
 // Sizes as words, read and written: m, d and the width bytes, each of which has to fit a byte.
+#![tactic(auto)]
+
 ghost use Rattle.std.specs.Prelude.{◌≡◌, ◌≤◌, length};
 ghost use Rattle.layouts.specs.Lengths.{sizes_length};
 ghost use Rattle.layouts.specs.SizeWords.{

@@ -14,8 +14,8 @@ use Rattle.layouts.specs.Statement.{WholeWidths}
 use Rattle.layouts.proofs.Entries.{two-written}
 use Rattle.sessions.specs.declared.Session.{Session}
 use Rattle.slices.specs.Slices.{overwritten}
-use Rattle.session_words.proofs.put_session.Statement.{statement}
-use Rattle.session_words.proofs.put_session.Tie as tie
+use Rattle.session_words.proofs.put_session.Goals.{Start}
+use Rattle.session_words.proofs.put_session.Goals as goal
 
 written :
     (σ : Session) (entry out : List ℕ) (k : ℕ) → WholeWidths σ.sizes → length entry ≡ session_length →
@@ -28,38 +28,8 @@ written σ entry out k e l p q =
     ∙ two-written sizes_length words (drop sizes_length entry) σ.position k (omega arith) (simp length-drop (omega arith))
     ∙ ap (λ j. words ++ (σ.position ∷ j ∷ [])) q
 
-widths : (c : tie.Start) → WholeWidths c.args.session.sizes
+widths : (c : Start) → WholeWidths c.args.session.sizes
 widths c = search rules
 
-mark-word-requires : tie.Need-mark-word-requires
-mark-word-requires c κs = search rules
-
-put-sizes-requires : tie.Need-put-sizes-requires
-put-sizes-requires c κs = search rules
-
-slice-write-out : tie.Need-slice-write-out
-slice-write-out c = search rules
-
-slice-write-out-2 : tie.Need-slice-write-out-2
-slice-write-out-2 c = search rules
-
-same_length : tie.Need-same-length
-same_length c = search rules
-
-returns : tie.Need-returns
-returns c =
-    let put = c.before.before in
-    let marked = put.before.before in
-    let entered = marked.before.before.before in
-    written entered.args.session entered.args.out.now _ _ (widths entered) entered.requires put.put-sizes.ensures marked.mark-word.ensures
-
-pub put-session-spec : {M : Type 1} → statement M
-put-session-spec =
-    tie.close
-    (tie.spec
-    mark-word-requires
-    put-sizes-requires
-    slice-write-out
-    slice-write-out-2
-    same_length
-    returns)
+pub returns : goal.returns
+returns c = written c.args.session c.args.out.now _ _ (widths (goal.at.returns c).Start) c.requires c.put_sizes.ensures c.mark_word-word.ensures

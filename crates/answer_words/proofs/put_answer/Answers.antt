@@ -15,8 +15,8 @@ use Rattle.layouts.proofs.Written.{part_whole, part_back}
 use Rattle.sessions.specs.declared.Answer.{Answer}
 use Rattle.sizes.specs.Sizes.{max_inputs}
 use Rattle.slices.specs.Slices.{overwritten}
-use Rattle.answer_words.proofs.put_answer.Statement.{statement}
-use Rattle.answer_words.proofs.put_answer.Tie as tie
+use Rattle.answer_words.proofs.put_answer.Goals.{Start}
+use Rattle.answer_words.proofs.put_answer.Goals as goal
 
 -- the words before the vector, with the kind's word k
 abbrev head : Answer → ℕ → List ℕ → List ℕ
@@ -40,67 +40,19 @@ written a entry out part k e l p q r =
     ∙ ap (head a k) (two-written max_inputs v rest a.output1 a.output2 e (simp (length-drop) (omega arith)))
     ∙ ap (λ j. head a j (v ++ (a.output1 ∷ a.output2 ∷ []))) r
 
-whole : (c : tie.Start) → WholeVector c.args.a
+whole : (c : Start) → WholeVector c.args.a
 whole c = search rules
 
-kind-word-requires : tie.Need-kind-word-requires
-kind-word-requires c κs = search rules
+pub copy_front-requires-2 : goal.copy_front-requires-2
+copy_front-requires-2 c = (omega (arith, whole (goal.at.copy_front-requires-2 c).Start), simp (length-take, length-drop) (omega (arith, c.copy_front.auto.to, c.requires)))
 
-slice-aggregate-copy-front : tie.Need-slice-aggregate-copy-front
-slice-aggregate-copy-front c = search rules
+pub bounds-out-16 : goal.bounds-out-16
+bounds-out-16 c = simp length-set (omega arith)
 
-copy-front-requires : tie.Need-copy-front-requires
-copy-front-requires c κs = search rules
+pub shape_of-out : goal.shape_of-out
+shape_of-out c = simp length-set (search rules)
 
-slice-aggregate-copy-front-2 : tie.Need-slice-aggregate-copy-front-2
-slice-aggregate-copy-front-2 c = search rules
-
-sub-copy-front : tie.Need-overflow-sub-copy-front
-sub-copy-front c = search rules
-
-part-copy-front-start : tie.Need-slice-bounds-copy-front-start
-part-copy-front-start c = search rules
-
-part-copy-front-end : tie.Need-slice-bounds-copy-front-end
-part-copy-front-end c = search rules
-
-copy-front-requires-2 : tie.Need-copy-front-requires-2
-copy-front-requires-2 c κs =
-    let copied = c.before.before.before.before in
-    let entered = copied.before.before.before.before.before.before.before in
-    (omega (arith, whole entered), simp (length-take, length-drop) (omega (arith, copied.copy-front.auto.1.0, entered.requires)))
-
-slice-write-out : tie.Need-slice-write-out
-slice-write-out c = search rules
-
-slice-write-out-2 : tie.Need-slice-write-out-2
-slice-write-out-2 c = simp length-set (omega arith)
-
-same_length : tie.Need-same-length
-same_length c = simp length-set (search rules)
-
-returns : tie.Need-returns
+pub returns : goal.returns
 returns c =
-    let put = c.before.before in
-    let copied = put.before.before.before.before.before in
-    let kinded = copied.before.before.before in
-    let entered = kinded.before.before.before.before in
-    written entered.args.a entered.args.out.now _ _ _ (whole entered) entered.requires copied.copy-front.ensures put.copy-front2.ensures
-    kinded.kind-word.ensures
-
-pub put-answer-spec : {M : Type 1} → statement M
-put-answer-spec =
-    tie.close
-    (tie.spec
-    kind-word-requires
-    slice-aggregate-copy-front
-    copy-front-requires
-    slice-aggregate-copy-front-2
-    sub-copy-front
-    part-copy-front-start
-    part-copy-front-end
-    copy-front-requires-2
-    slice-write-out
-    slice-write-out-2
-    same_length
-    returns)
+    written c.args.a c.args.out.now _ _ _ (whole (goal.at.returns c).Start) c.requires c.copy_front.ensures c.copy_front-2.ensures
+    c.kind_word-kind.ensures

@@ -1,5 +1,7 @@
 // The calls on the bound and on the grid of a file, in words. Each returns 1 where its layout is right, and 0, with
 // nothing touched, where it is not.
+#![tactic(auto)]
+
 ghost use Rattle.grid_calls.specs.GridCalls.{BoundCall, GridCall};
 
 use fields::read_sizes;

@@ -1,6 +1,8 @@
 // The calls on sessions, in words. A session is words: m, d, the width bytes, position and mark. Where it has
 // another length, a size does not fit a byte or the mark is not 0 to 2, continuing returns 0, with nothing touched.
 // Opening takes any words of that length and overwrites them.
+#![tactic(auto)]
+
 ghost use Rattle.session_calls.specs.SessionCalls.{OpenCall, ContinueCall};
 
 use answer_words::{ANSWER_LENGTH, put_answer};

@@ -1,5 +1,7 @@
 // The calls on difference tables, in words. Sizes are words: m, d and the width bytes. Where they have another
 // length, or a word does not fit a byte, the call returns 0, with nothing touched.
+#![tactic(auto)]
+
 ghost use Rattle.table_calls.specs.TableCalls.{TableCall, TransformCall};
 
 use file_tables::make_table;

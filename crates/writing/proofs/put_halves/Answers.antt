@@ -5,7 +5,7 @@ use Rattle.text.specs.Text.{line, spaced}
 use Rattle.text.specs.Writing.{RoomFor}
 use Rattle.text.proofs.Over.{room-first, room-second, put_then}
 use Rattle.text.proofs.Spaced.{line-halves}
-use Rattle.writing.proofs.put_halves.Goals.{After-shared_slice_known-1, Start}
+use Rattle.writing.proofs.put_halves.Goals.{Start}
 use Rattle.writing.proofs.put_halves.Goals as goal
 
 -- the room for the line, in the two parts that are written
@@ -18,16 +18,8 @@ room s = rw line-halves at s.requires
 pub put_words-next-requires : goal.put_words-next-requires
 put_words-next-requires c = room-first _ _ (room (goal.at.put_words-next-requires c).Start)
 
--- UNPLACED slice-aggregate-put-words
--- slice-aggregate-put-words : tie.Need-slice-aggregate-put-words
--- slice-aggregate-put-words c = search rules
-
--- UNPLACED slice-aggregate-put-words-2
--- slice-aggregate-put-words-2 : tie.Need-slice-aggregate-put-words-2
--- slice-aggregate-put-words-2 c = search rules
-
 pub put_words-requires : goal.put_words-requires
-put_words-requires c = room-second (room (goal.at.put_words-requires c).After-shared_slice_known-1) c.put_words-next.ensures
+put_words-requires c = room-second (room (goal.at.put_words-requires c).Start) c.put_words-next.ensures
 
 pub returns : goal.returns
-returns c = rw line-halves (put_then (room (goal.at.returns c).After-shared_slice_known-1) c.put_words-next.ensures c.put_words.ensures)
+returns c = rw line-halves (put_then (room (goal.at.returns c).Start) c.put_words-next.ensures c.put_words.ensures)

@@ -1,12 +1,13 @@
 -- `writing::put_values` meets its contract. The loop's invariant: the first i values are written, up to the next index. It ends where there are
 -- no more width bytes, or no more words, and so no more values.
 -- Assumes nothing.
+use mathlib.Core.List.{List}
 use mathlib.Core.Path.{◌≡◌, refl}
 use Prim.Native.Nat.{◌-◌, ◌≤◌, ◌<◌}
 use native.Mathlib.Omega.{arith}
 use borrow.Author.Rules.{rules}
 use borrow.Author.Tests.{ltb-true, ltb-false}
-use lib.IntN.{pos}
+use lib.IntN.{ℤ, pos}
 use lib.ListN.{length, get_or}
 use lib.Seq.{take_all}
 use Rattle.formats.specs.Bytes.{format_of}
@@ -18,15 +19,19 @@ use Rattle.text.proofs.Over.{room-second, put-start, put_then}
 use Rattle.text.proofs.Spaced.{spaced-step, spaced-room}
 use Rattle.writing.proofs.Values.{length-written, written_entry}
 use Rattle.writing.proofs.put_values.Goals.{After-format_of, At-loop-i, Then-i-ws}
-use Rattle.writing.proofs.put_values.Invariants.{values, written}
+use Rattle.writing.proofs.put_values.Invariants.{values}
 use Rattle.writing.proofs.put_values.Goals as goal
+
+-- the values, from the head of the loop
+abbrev written : At-loop-i → List ℤ
+written turn = values turn.args.widths.now turn.args.ws.now
 
 -- the second test of the loop, as an order of numbers
 another : (c : Then-i-ws) → c.loop-i.i < length c.args.ws.now
-another c = ltb-true _ _ c.if-i-ws.true
+another c = c.if-i-ws.true
 
 -- where both have passed there is a value more
-more : (c : Then-i-ws) → c.loop-i.i < length (written (goal.at.?Then1 c).At-loop-i)
+more : (c : Then-i-ws) → c.loop-i.i < length (values c.args.widths.now c.args.ws.now)
 more c =
     let a = c.args in
     omega (arith, length-written a.widths.now a.ws.now, c.loop-i-test.true, another c)
@@ -68,7 +73,7 @@ loop-i-preserved c =
 pub returns-else-i-ws : goal.returns-else-i-ws
 returns-else-i-ws c =
     let a = c.args in
-    let end : length a.ws.now ≤ c.loop-i.i = ltb-false _ _ c.if-i-ws.false in
+    let end : length a.ws.now ≤ c.loop-i.i = c.if-i-ws.false in
     all (goal.at.returns-else-i-ws c).At-loop-i (omega (arith, length-written a.widths.now a.ws.now))
 
 pub returns-after-loop-i : goal.returns-after-loop-i

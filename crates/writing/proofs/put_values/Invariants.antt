@@ -16,10 +16,6 @@ use Rattle.writing.proofs.put_values.Given as goal
 abbrev pub values : List ℕ → List ℕ → List ℤ
 values widths ws = values_of (map format_of widths) ws
 
--- the values, from there
-abbrev pub written : At-loop-i → List ℤ
-written turn = values turn.args.widths.now turn.args.ws.now
-
 abbrev pub invariant-loop-i : goal.invariant-loop-i
 invariant-loop-i l = (l.i ≤ length (values l.widths l.ws)) × (length l.text ≡ length l.initial.text) × Put (spaced_integers (take l.i (values l.widths l.ws))) l.initial.text l.text l.at l.next
 

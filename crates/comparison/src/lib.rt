@@ -1,4 +1,6 @@
 // Two files compared to their verdict, and the text that is printed of them.
+#![tactic(auto)]
+
 ghost use Rattle.std.specs.Prelude.{◌≤◌, length};
 ghost use Rattle.printed.specs.Report.{printed, text_room};
 ghost use Rattle.text.specs.Writing.{TextWritten};

@@ -1,4 +1,6 @@
 // A session continued to its verdict, as the comparing program does it.
+#![tactic(auto)]
+
 ghost use Rattle.std.specs.Prelude.{◌≡◌, length};
 ghost use Rattle.conclusion.specs.Conclusion.{Concluded};
 ghost use Rattle.file.specs.Check.{max_steps};

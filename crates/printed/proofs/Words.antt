@@ -1,5 +1,5 @@
 -- The numbers of an answer that a function is given are those of a machine: the logic says so of each part of a struct. Assumes nothing.
-use mathlib.Core.List.{List, [], ◌∷◌, map, map-id}
+use mathlib.Core.List.{List, [], ◌∷◌}
 use Prim.Native.Nat.{ℕ, zero, suc, ◌^◌, ◌<◌}
 use denote.Array.{each}
 use denote.Laws.{Is}
@@ -28,8 +28,8 @@ words a vs is =
       number = parts.0.1.1.0.1;
       file = parts.0.1.1.1.0.1;
       step = parts.0.1.1.1.1.0.1;
-      inputs = rw (map-id a.vector) at parts.1.1.1.0.1.0.1;
-      entries = rw (map-id a.vector) at (entries (map (λ (x : ℕ). x) a.vector) parts.1.1.1.0.0 parts.1.1.1.0.1.1);
+      inputs = parts.1.1.1.0.1.0.1;
+      entries = entries a.vector parts.1.1.1.0.0 parts.1.1.1.0.1.1;
       output₁ = parts.1.1.1.1.0.1;
       output₂ = parts.1.1.1.1.1.0.1;
     }

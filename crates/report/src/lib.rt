@@ -1,4 +1,6 @@
 // The text of a continue call's answer, as the comparing program prints it.
+#![tactic(auto)]
+
 ghost use Rattle.printed.specs.Report.{concluded};
 ghost use Rattle.report.specs.Report.{Reported};
 ghost use Rattle.text.specs.Writing.{RoomFor, Put};

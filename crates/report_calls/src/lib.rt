@@ -1,4 +1,6 @@
 // The call on reports, in words. It returns 1 where its layout is right, and 0, with nothing touched, where it is not.
+#![tactic(auto)]
+
 ghost use Rattle.report_calls.specs.ReportCalls.{ReportCall};
 
 use answer_words::{ANSWER_LENGTH, answer_fits, answer_from};

@@ -1,4 +1,6 @@
 // The lines of a report, written into a text slice from an index on. Each function answers the index after its line.
+#![tactic(auto)]
+
 ghost use Rattle.std.specs.Prelude.{◌≤◌};
 ghost use Rattle.file.specs.Accepted.{Accepted};
 ghost use Rattle.sizes.specs.Sizes.{max_inputs};

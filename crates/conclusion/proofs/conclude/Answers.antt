@@ -1,0 +1,54 @@
+-- `conclusion::conclude` meets its contract. The invariant: the calls made so far have led to the current session, and the stop is not
+-- reached. The measure is what is left to the stop.
+use mathlib.Core.Path.{◌≡◌, refl}
+use mathlib.Core.List.{[], ◌∷◌}
+use Prim.Native.Nat.{◌-◌}
+use native.Mathlib.Omega.{arith}
+use types.Run.{miss}
+use Rattle.sessions.specs.Demand3.{stop}
+use Rattle.sessions.proofs.Pair.{pair-accepted, comparable}
+use Rattle.sessions.specs.Calls.{answer_to}
+use Rattle.conclusion.specs.Conclusion.{own_call}
+use Rattle.conclusion.proofs.Trail.{trail_start, trail_step, trail_end}
+use Rattle.conclusion.proofs.Turn.{Turned, under_start, turned}
+use borrow.Author.Rules.{rules}
+use Rattle.conclusion.proofs.conclude.Goals.{After-continue_session-next}
+use Rattle.conclusion.proofs.conclude.Goals as goal
+
+turn :
+    (c : After-continue_session-next) →
+    let a = c.args in
+    Turned a.file1.now a.file2.now c.loop.run c.continue_session-next.result
+turn c =
+    let files = comparable _ _ (pair-accepted c.args.file1.now c.args.file2.now c.requires.file2_value) in
+    rw c.continue_session-next.ensures.answer
+    (turned _ _ c.requires.file2_value _ _ c.loop.invariant.0 _ _ (omega arith)
+    (omega (arith, files.sound₁.count_high, files.sound₂.count_high, c.requires.scratch_len, c.loop.invariant.2)))
+
+-- the call is one of the program's own
+called :
+    (c : After-continue_session-next) →
+    let a = c.args in
+    c.continue_session-next.result ≡ answer_to c.loop.current (own_call a.file1.now a.file2.now)
+unfolding answer_to
+called c = rw (c.loop.invariant.2, c.requires.scratch_len) at c.continue_session-next.ensures.answer
+
+pub loop-init : goal.loop-init
+loop-init c = (rw c.requires.session_value (under_start _ _ c.requires.file2_value), rw c.requires.session_value (trail_start _ _), refl)
+
+pub overflow_add-run : goal.overflow_add-run
+overflow_add-run c = omega (arith, (turn (goal.at.overflow_add-run c).After-continue_session-next).counted)
+
+pub enum_told-1 : goal.enum_told-1
+enum_told-1 c = c.in_default.in_default-own.keys1
+
+pub loop-smaller : goal.loop-smaller
+loop-smaller c = let t = (turn (goal.at.loop-smaller c).After-continue_session-next).onward c.in-Open.is in omega (arith, t.0.below, t.1)
+
+pub loop-preserved : goal.loop-preserved
+loop-preserved c = (((turn (goal.at.loop-preserved c).After-continue_session-next).onward c.in-Open.is).0, trail_step _ _ _ _ c.loop.invariant.1 _ (called (goal.at.loop-preserved c).After-continue_session-next), search rules)
+
+pub returns-in_default : goal.returns-in_default
+returns-in_default c =
+    trail_end _ _ _ _ c.loop.invariant.1 _ (called (goal.at.returns-in_default c).After-continue_session-next)
+    ((turn (goal.at.returns-in_default c).After-continue_session-next).finished (λ e. miss (1 ∷ 2 ∷ []) 0 tt (rw e at c.in_default.in_default-own.keys2)))

@@ -1,10 +1,8 @@
 -- `conclusion::conclude` meets its contract. The invariant: the calls made so far have led to the current session, and the stop is not
 -- reached. The measure is what is left to the stop.
 use mathlib.Core.Path.{◌≡◌, refl}
-use mathlib.Core.List.{[], ◌∷◌}
 use Prim.Native.Nat.{◌-◌}
 use native.Mathlib.Omega.{arith}
-use types.Run.{miss}
 use Rattle.sessions.specs.Demand3.{stop}
 use Rattle.sessions.proofs.Pair.{pair-accepted, comparable}
 use Rattle.sessions.specs.Calls.{answer_to}
@@ -39,9 +37,6 @@ loop-init c = (rw c.requires.session_value (under_start _ _ c.requires.file2_val
 pub overflow_add-run : goal.overflow_add-run
 overflow_add-run c = omega (arith, (turn (goal.at.overflow_add-run c).After-continue_session-next).counted)
 
-pub enum_told-1 : goal.enum_told-1
-enum_told-1 c = c.in_default.in_default-own.keys1
-
 pub loop-smaller : goal.loop-smaller
 loop-smaller c = let t = (turn (goal.at.loop-smaller c).After-continue_session-next).onward c.in-Open.is in omega (arith, t.0.below, t.1)
 
@@ -51,4 +46,4 @@ loop-preserved c = (((turn (goal.at.loop-preserved c).After-continue_session-nex
 pub returns-in_default : goal.returns-in_default
 returns-in_default c =
     trail_end _ _ _ _ c.loop.invariant.1 _ (called (goal.at.returns-in_default c).After-continue_session-next)
-    ((turn (goal.at.returns-in_default c).After-continue_session-next).finished (λ e. miss (1 ∷ 2 ∷ []) 0 tt (rw e at c.in_default.in_default-own.keys2)))
+    ((turn (goal.at.returns-in_default c).After-continue_session-next).finished c.in_default.not-Open)

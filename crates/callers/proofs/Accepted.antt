@@ -346,8 +346,8 @@ difference_of_sum_lem z t y o y' o' h zero u q u' q' k room =
     differenced-next z y' u q u' q' (sizes_from z) (summed_up (sizes_from z) t y) _ refl
     (wrote (cells_fit z o) _ y y' h.result h.written) k p.0 p.1
 
-sum_of_difference : SumOfDifferenceInC
-sum_of_difference z y t o t' o' h zero u q u' q' k room =
+sum_of_difference_lem : SumOfDifferenceInC
+sum_of_difference_lem z y t o t' o' h zero u q u' q' k room =
     let p = sum_of_difference (sizes_from z) y t u (first-passed z y t o o' h.result h.out zero) room in
     summed-next z t' u q u' q' (sizes_from z) (differenced (sizes_from z) y t) _ refl
     (wrote (cells_fit z o) _ t t' h.result h.written) k p.0 p.1
@@ -364,5 +364,5 @@ accepted_in_c =
       continuing = carried_on;
       sum_of_table = sum_of_table_lem;
       difference_of_sum = difference_of_sum_lem;
-      sum_of_difference = sum_of_difference;
+      sum_of_difference = sum_of_difference_lem;
     }

@@ -219,8 +219,8 @@ passed [] c after l (answered {ks = ks} a m) = record { earlier = []; later = ks
 passed (b ∷ before) c after l (skipped s m) =
     let r = passed before c after l m in
     record { earlier = r.earlier; later = r.later; split = r.split; mirror = skipped s r.mirror; here = r.here }
-passed (b ∷ before) c after l (answered a m) =
-    let r = passed before c after l m in
+passed {σ = σ} (b ∷ before) c after l (answered {ks = ks} a m) =
+    let r = passed {σ = (answer_to σ (call b)).session} before c after l m in
     record {
       earlier = call b ∷ r.earlier;
       later = r.later;

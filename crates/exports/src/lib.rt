@@ -3,6 +3,8 @@
 // lengths; a call given sizes of another length, or with a word that does not fit a byte, returns 0. A session is
 // words: the sizes, position and mark. Where it has another length, a size does not fit a byte or the mark is not 0
 // to 2, continuing returns 0. Opening takes any words of that length and overwrites them.
+#![tactic(auto)]
+
 ghost use Rattle.file_calls.specs.FileCalls.{
   CheckCall,
   OperationsCall,

@@ -1,1 +1,2 @@
 // The pairs of document 01: the table in specs/, its test in proofs/. No code.
+#![tactic(auto)]

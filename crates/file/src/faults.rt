@@ -12,6 +12,7 @@ use words::cut;
 
 // The first of conditions 1 to 6 that holds, or 0. Condition 1 is judged twice: before 2 of a short head, and after 3
 // of the head that d asks for.
+#[tactic(auto, using(crate::proofs::Cases::head_1))]
 pub fn head_fault(file: &[u8]) -> u64
     ensures { result ≡ head_fault file.now }
 {

@@ -1,2 +1,3 @@
+pub mod Casts
 pub mod Complement
 pub mod InputWords

@@ -10,6 +10,7 @@ use formats::Format;
 use words::cut;
 
 // The integer that a word gives in two's complement.
+#[tactic(auto, using(crate::proofs::Casts::natural_read))]
 pub fn signed_value(w: u64) -> i64
     ensures { result ≡ signed_value w }
 {
@@ -20,6 +21,7 @@ pub fn signed_value(w: u64) -> i64
 }
 
 // The word of an integer, in two's complement.
+#[tactic(auto, using(crate::proofs::Casts::below_0_room, crate::proofs::Casts::below_0_made))]
 pub fn word_of(x: i64) -> u64
     ensures { result ≡ word x }
 {
@@ -43,6 +45,7 @@ pub fn lowest_value(f: Format) -> i64
 
 // Whether a word gives a value of the input: for a signed one by the order of integers, from the lowest value to the
 // highest, and for an unsigned one by its bits, of which none is set past the n lowest.
+#[tactic(auto, using(crate::proofs::Casts::in_then, crate::proofs::Casts::in_else))]
 pub fn in_format(f: Format, w: u64) -> bool
     requires { Usable f }
     ensures { result ≡ in_format f w }

@@ -60,3 +60,5 @@ pub residue_low-product :
     (m x y : ℕ) (a b : ℤ) → x % 2 ^ m ≡ remainder a (2 ^ m) → y % 2 ^ m ≡ remainder b (2 ^ m) → m ≤ 32 →
     x % 2 ^ 32 * (y % 2 ^ 32) % 2 ^ m ≡ remainder (a *ℤ b) (2 ^ m)
 residue_low-product m x y a b left right h = residue_mul m (x % 2 ^ 32) (y % 2 ^ 32) a b (cut_cut x 32 m h ∙ left) (cut_cut y 32 m h ∙ right)
+
+pub ruleset low_products = (arith, residue_low-product)

@@ -19,6 +19,7 @@ pub const FEW_LANES: usize = 8;
 
 // Row k becomes the product of the earlier rows a and b modulo 2^m. Where m is 32 or less it is taken of the low 32
 // bits.
+#[tactic(auto, using(crate::proofs::Residues::low_products))]
 fn product_row(m: u64, rows: &mut [u64], k: usize, a: usize, b: usize, w: usize)
     requires m_bound { m ≤ 64 }
     requires operands { Operands w rows.old k a b }

@@ -1,3 +1,4 @@
 pub mod Bytes
 pub mod Congruence
 pub mod Halves
+pub mod Masks

@@ -17,6 +17,7 @@ pub fn wrapping_mul(a: u64, b: u64) -> u64
 }
 
 // x modulo 2^m: the lowest m bits, by a mask. All of x where m is 64 or more.
+#[tactic(auto, using(crate::proofs::Masks::cut_masked, crate::proofs::Masks::cut_whole))]
 pub fn cut(x: u64, m: u64) -> u64
     ensures { result ≡ x % 2 ^ m }
 {

@@ -27,9 +27,6 @@ more w d lows inputs₀ inputs inputs' i f h e written =
           (eq-or-lt_of_le (omega arith));
     }
 
-pub returns-then-w-places : goal.returns-then-w-places
-returns-then-w-places c = λ fewer. absurd (omega (arith, c.if-w-places.true))
-
 pub loop-i-init : goal.loop-i-init
 loop-i-init c = record { within = omega arith; long = refl; rows = λ i l h. absurd (omega arith) }
 

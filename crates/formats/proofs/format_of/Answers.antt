@@ -3,11 +3,10 @@
 use mathlib.Core.Path.{◌≡◌}
 use Prim.Native.Nat.{ℕ, ◌-◌, ◌/◌, ◌%◌, ◌^◌, ◌<◌}
 use native.Mathlib.Decide.{dec_lt}
-use native.Mathlib.Nat.{lt_trans}
 use native.Mathlib.Omega.{arith}
 use borrow.Author.Tests.{le-leb, lt-leb, eq-eqb, ne_eqb}
-use lib.Bits.{and_mask, mask_lt}
-use lib.Dec.{eqb, lit<}
+use lib.Bits.{and_mask}
+use lib.Dec.{eqb}
 use Rattle.formats.specs.Bytes.{format_of}
 use Rattle.formats.proofs.format_of.Goals as goal
 
@@ -18,9 +17,6 @@ parted b h =
       | yes l ↦ let e : b % 128 ≡ b = omega arith in rw (lt-leb 128 b l, ne_eqb (b / 128) 1 (λ e. omega arith), e)
       | no l ↦ let e : b % 128 ≡ b - 128 = omega arith in rw (le-leb 128 b (omega arith), eq-eqb (b / 128) 1 (omega arith), e)
     ]
-
-pub overflow_cast-result : goal.overflow_cast-result
-overflow_cast-result c = record { fits = lt_trans (mask_lt c.args.byte 7) (lit< tt) }
 
 pub returns : goal.returns
 returns c = rw (and_mask c.args.byte 7) (parted c.args.byte c.ranges.byte.fits)

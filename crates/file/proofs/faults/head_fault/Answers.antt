@@ -10,7 +10,7 @@ use Rattle.sizes.specs.Sizes.{within, output_length, input_count, bad_output, ba
 use Rattle.fields.specs.File.{sizes_of, head_of, step_count}
 use Rattle.fields.proofs.Heads.{head-most, head-short}
 use Rattle.file.specs.Check.{max_steps}
-use Rattle.file.proofs.Cases.{told, head_0, head_1, head_2, head_3, own-head_1, head_4, head_5, head_6}
+use Rattle.file.proofs.Cases.{told, head_0, head_2, head_3, own-head_1, head_4, head_5, head_6}
 use Rattle.file.proofs.faults.head_fault.Goals.{Else-bad_widths, Else-file-head, Else-not-is_input_count, Else-not-is_output_length, Else-not-within}
 use Rattle.file.proofs.faults.head_fault.Goals as goal
 
@@ -37,9 +37,6 @@ count c = told (within 1 max_steps) c.within.ensures c.step_count-n.ensures.0 (c
 
 widths : (c : Else-bad_widths) → bad_widths (sizes_of c.args.file.now) ≡ false
 widths c = told bad_widths c.bad_widths.ensures c.read_sizes.ensures c.if-bad_widths.false
-
-pub returns-then-file-lt-SHORT_HEAD : goal.returns-then-file-lt-SHORT_HEAD
-returns-then-file-lt-SHORT_HEAD c = head_1 _ c.if-file-lt-SHORT_HEAD.true
 
 pub returns-then-not-is_output_length : goal.returns-then-not-is_output_length
 unfolding bad_output

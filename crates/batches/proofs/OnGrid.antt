@@ -21,7 +21,7 @@ use Rattle.plan.proofs.Numbers.{grid, lowest}
 use Rattle.sizes.specs.Padded.{padded}
 use Rattle.sizes.specs.Sizes.{max_inputs}
 use Rattle.sizes.proofs.Padded.{length-padded, padded-entry}
-use Rattle.vectors.specs.Vectors.{low_words, raised, held_at, GridWord}
+use Rattle.vectors.specs.Vectors.{low_words, held_at, GridWord}
 use Rattle.vectors.proofs.Digits.{below_at}
 use Rattle.vectors.proofs.Raised.{raised-entry}
 use Rattle.batches.specs.Batch.{LanesSet, Lowest, DeadOnGrid}

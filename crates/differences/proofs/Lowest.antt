@@ -3,7 +3,7 @@
 -- Assumes nothing.
 use mathlib.Core.Path.{◌≡◌, refl, sym, ◌∙◌, ap}
 use mathlib.Core.List.{List, [], ◌∷◌}
-use Prim.Native.Nat.{ℕ, zero, suc, ◌/◌, ◌%◌}
+use Prim.Native.Nat.{ℕ}
 use native.Mathlib.Nat.{zero-div, zero-mod}
 use native.Mathlib.Omega.{arith}
 use lib.IntN.{ℤ, pos, ◌+ℤ◌, +ℤ_idr}
@@ -11,7 +11,7 @@ use lib.ListN.{length}
 use Rattle.integers.specs.Modulo.{remainder}
 use Rattle.newton.specs.Difference.{differences}
 use Rattle.lists.proofs.Tabulate.{get_d_tabulate}
-use Rattle.places.specs.Places.{Below, size, digits_at}
+use Rattle.places.specs.Places.{size, digits_at}
 use Rattle.places.specs.Vectors.{counted}
 use Rattle.places.proofs.LastAxis.{length-below}
 use Rattle.differences.specs.Statement.{AtLowest, FirstCell}

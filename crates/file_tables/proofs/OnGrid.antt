@@ -1,10 +1,9 @@
 -- A file's outputs are those at the vectors of its grid, and the first cell of its table is the one at the lowest values.
 -- Assumes nothing.
 use mathlib.Core.Path.{◌≡◌, ◌∙◌, ap}
-use mathlib.Core.List.{List, map}
+use mathlib.Core.List.{List}
 use Prim.Native.Nat.{ℕ, ◌^◌, ◌<◌}
 use native.Mathlib.Nat.{zero-add}
-use lib.IntN.{ℤ}
 use lib.ListN.{get_or}
 use Rattle.datapath.specs.Steps.{exact, output}
 use Rattle.differences.proofs.Lowest.{first_cell}

@@ -10,7 +10,6 @@ use Rattle.evaluate.specs.Evaluate.{output_of}
 use Rattle.fields.specs.File.{sizes_of}
 use Rattle.file.specs.Accepted.{Accepted}
 use Rattle.formats.specs.Formats.{lowest}
-use Rattle.formats.specs.declared.Format.{Format}
 use Rattle.grid.specs.Grid.{grid_size}
 use Rattle.places.specs.Vectors.{vector_at, OnAxes}
 use Rattle.sizes.specs.Sizes.{formats_of}

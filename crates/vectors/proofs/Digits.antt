@@ -1,7 +1,7 @@
 -- The counts that a vector holds above the lowest words are the digits of its place: each weighs the size of the axes after it, so the write of
 -- one entry moves the place by that weight. By recursion on the axes.
 -- Assumes nothing.
-use Rattle.std.proofs.Common.{◌≡◌, ℕ, zero, suc, ◌+◌, ◌-◌, ◌*◌, ◌%◌, ◌^◌, ◌<◌, ◌≤◌, List, [], ◌∷◌, length, get_or, take, drop, set, replicate, sym, refl, ap, ◌∙◌, arith, length-set, drop-cons, take_at, pow_pos}
+use Rattle.std.proofs.Common.{◌≡◌, ℕ, zero, suc, ◌+◌, ◌-◌, ◌*◌, ◌%◌, ◌^◌, ◌<◌, List, [], ◌∷◌, length, get_or, take, drop, set, replicate, sym, refl, ap, ◌∙◌, arith, length-set, drop-cons, take_at, pow_pos}
 use native.Mathlib.Decide.{dec_lt}
 use lib.ListN.{length-replicate, replicate-append-replicate, get_or-eq_default}
 use lib.Seq.{drop-length, set-append_left}

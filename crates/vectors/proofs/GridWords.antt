@@ -1,6 +1,6 @@
 -- The words of the grid's vectors: each value of the grid is a value of its input, so its word gives it back.
 -- Assumes nothing.
-use Rattle.std.proofs.Common.{◌≡◌, ℕ, ◌<◌, List, map, length, get_or, ℤ, sym, refl, ap, ◌∙◌, subst, arith}
+use Rattle.std.proofs.Common.{◌≡◌, ℕ, ◌<◌, map, length, get_or, sym, ◌∙◌, subst, arith}
 use lib.ListN.{length-map}
 use Rattle.formats.specs.Formats.{FullWidth}
 use Rattle.formats.specs.declared.Format.{Format}
@@ -12,7 +12,7 @@ use Rattle.input_words.proofs.InputWords.{values-front, values-words}
 use Rattle.places.specs.Vectors.{vector_at}
 use Rattle.places.proofs.Places.{length_digits}
 use Rattle.places.proofs.Vectors.{vectors}
-use Rattle.sizes.specs.Sizes.{max_inputs, format_at, formats_of, Ruled}
+use Rattle.sizes.specs.Sizes.{max_inputs, formats_of, Ruled}
 use Rattle.sizes.specs.declared.Sizes.{Sizes}
 use Rattle.sizes.proofs.Formats.{length_formats, format_entry}
 use Rattle.words.specs.Words.{word}

@@ -11,7 +11,7 @@ use Rattle.places.proofs.Places.{length_digits}
 use Rattle.sizes.specs.Padded.{padded}
 use Rattle.sizes.specs.Sizes.{max_inputs}
 use Rattle.words.specs.Words.{word}
-use Rattle.words.proofs.Congruence.{word-add, word_pos, word-most}
+use Rattle.words.proofs.Congruence.{word-add, word-most}
 use Rattle.vectors.specs.Vectors.{raised, held_at, Arrays}
 
 pub length-raised : (lows ts : List ℕ) → length lows ≡ length ts → length (raised lows ts) ≡ length lows

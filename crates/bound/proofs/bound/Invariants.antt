@@ -1,8 +1,8 @@
 -- `bound::bound` meets its contract. The loop's invariant: what is added up and what is still to come make what algorithm 1 adds to m, and
 -- what remains is below 2^(v + 1) − 1, so that a remainder other than 0 has a v above 0. Assumes nothing.
 use mathlib.Core.Path.{◌≡◌}
-use Prim.Native.Nat.{ℕ, suc, ◌+◌, ◌-◌, ◌^◌, ◌≤◌, ◌<◌}
-use Rattle.bound.specs.Bound.{bound, log2, greedy}
+use Prim.Native.Nat.{ℕ, suc, ◌+◌, ◌^◌, ◌≤◌, ◌<◌}
+use Rattle.bound.specs.Bound.{log2, greedy}
 use Rattle.bound.proofs.bound.Given as goal
 
 pub record Adding (m v rem n : ℕ) : Type 0 where

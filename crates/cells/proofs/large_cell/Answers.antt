@@ -4,7 +4,7 @@
 use mathlib.Core.Bool.{true, false, not}
 use mathlib.Core.List.{List}
 use mathlib.Core.Path.{◌≡◌, sym, ap, ◌∙◌}
-use Prim.Native.Nat.{ℕ, ◌-◌, ◌%◌, ◌^◌}
+use Prim.Native.Nat.{ℕ, ◌%◌, ◌^◌}
 use native.Mathlib.Nat.{sub-zero}
 use native.Mathlib.Omega.{arith}
 use borrow.Author.Tests.{eq-eqb, ne_eqb}
@@ -12,7 +12,6 @@ use lib.Dec.{eqb}
 use lib.ListN.{get_or}
 use lib.Pow.{pow_pos}
 use Rattle.file.proofs.Cases.{own-remainder}
-use Rattle.ranges.specs.Search.{every}
 use Rattle.ranges.proofs.Search.{every-step, every-not, every_end}
 use Rattle.cells.specs.Cells.{small_cell, large_cell}
 use Rattle.cells.proofs.large_cell.Goals as goal

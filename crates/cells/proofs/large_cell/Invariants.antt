@@ -2,9 +2,9 @@
 -- cells are small just where those from p on are.
 -- Assumes nothing.
 use mathlib.Core.Path.{◌≡◌}
-use Prim.Native.Nat.{◌≤◌, ◌-◌, ◌^◌}
+use Prim.Native.Nat.{◌≤◌, ◌-◌}
 use Rattle.ranges.specs.Search.{every}
-use Rattle.cells.specs.Cells.{small_cell, large_cell}
+use Rattle.cells.specs.Cells.{small_cell}
 use Rattle.cells.proofs.large_cell.Given as goal
 
 abbrev pub invariant-loop-p : goal.invariant-loop-p

@@ -1,9 +1,7 @@
 -- `conclusion::conclude` meets its contract. The invariant: the calls made so far have led to the current session, and the stop is not
 -- reached. The measure is what is left to the stop.
 use mathlib.Core.Path.{◌≡◌, refl}
-use Prim.Native.Nat.{◌-◌}
 use native.Mathlib.Omega.{arith}
-use Rattle.sessions.specs.Demand3.{stop}
 use Rattle.sessions.proofs.Pair.{pair-accepted, comparable}
 use Rattle.sessions.specs.Calls.{answer_to}
 use Rattle.conclusion.specs.Conclusion.{own_call}

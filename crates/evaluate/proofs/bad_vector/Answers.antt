@@ -1,11 +1,10 @@
 -- `evaluate::bad_vector` meets its contract. The loop's invariant: the vector is d long, and all values are in range just where those from
 -- i on are.
 -- Assumes nothing.
-use Rattle.std.proofs.Common.{◌-◌, sym, ◌∙◌, arith, eq-eqb, ne_eqb}
+use Rattle.std.proofs.Common.{sym, ◌∙◌, arith, eq-eqb, ne_eqb}
 use native.Mathlib.Nat.{sub-zero}
-use Rattle.ranges.specs.Search.{every}
 use Rattle.ranges.proofs.Search.{every-step, every-not, every_end}
-use Rattle.evaluate.specs.Evaluate.{in_range, bad_vector}
+use Rattle.evaluate.specs.Evaluate.{bad_vector}
 use Rattle.evaluate.proofs.bad_vector.Goals as goal
 
 pub returns-then-vector-d : goal.returns-then-vector-d

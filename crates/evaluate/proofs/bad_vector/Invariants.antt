@@ -3,7 +3,7 @@
 -- Assumes nothing.
 use Rattle.std.proofs.Common.{◌≡◌, ◌-◌, ◌≤◌, length}
 use Rattle.ranges.specs.Search.{every}
-use Rattle.evaluate.specs.Evaluate.{in_range, bad_vector}
+use Rattle.evaluate.specs.Evaluate.{in_range}
 use Rattle.evaluate.proofs.bad_vector.Given as goal
 
 abbrev pub invariant-loop-i : goal.invariant-loop-i

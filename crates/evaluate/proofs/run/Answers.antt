@@ -1,7 +1,7 @@
 -- `evaluate::run` meets its contract. The loop's invariant: the first k scratch entries hold the values of the first k steps, the others are
 -- as at entry.
 -- Assumes nothing.
-use Rattle.std.proofs.Common.{◌≡◌, ℕ, ◌+◌, ◌-◌, ◌<◌, List, [], ◌∷◌, ◌++◌, map, length, get_or, drop, set, sym, refl, ap, ◌∙◌, ap₂, arith, length-drop, length-set, drop-drop, take_at}
+use Rattle.std.proofs.Common.{◌≡◌, ℕ, ◌+◌, ◌<◌, List, [], ◌∷◌, ◌++◌, map, length, get_or, drop, set, sym, refl, ap, ◌∙◌, ap₂, arith, length-drop, length-set, drop-drop, take_at}
 use lib.ListN.{length-map}
 use Rattle.fields.specs.Steps.{step_at, steps_of}
 use Rattle.fields.proofs.Steps.{steps-at}

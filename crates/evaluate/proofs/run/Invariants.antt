@@ -1,7 +1,7 @@
 -- `evaluate::run` meets its contract. The loop's invariant: the first k scratch entries hold the values of the first k steps, the others are
 -- as at entry.
 -- Assumes nothing.
-use Rattle.std.proofs.Common.{◌≡◌, ℕ, ◌+◌, ◌-◌, ◌≤◌, List, ◌++◌, map, length, drop}
+use Rattle.std.proofs.Common.{◌≡◌, ℕ, ◌-◌, ◌≤◌, List, ◌++◌, map, length, drop}
 use Rattle.fields.specs.Steps.{steps_of}
 use Rattle.datapath.specs.Steps.{values}
 use Rattle.words.specs.Words.{word, plain}

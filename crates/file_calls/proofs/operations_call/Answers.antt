@@ -1,7 +1,7 @@
 -- `file_calls::operations_call` meets its contract: an accepted file has a step, so that its stretch is empty only where it is refused.
 -- Assumes nothing.
 use mathlib.Core.Path.{refl, ◌∙◌, ap}
-use mathlib.Core.Logic.{inl, inr, ⊎_elim}
+use mathlib.Core.Logic.{inl, inr}
 use lib.ListN.{length}
 use borrow.Author.Tests.{eq-eqb, ne_eqb}
 use Rattle.file_calls.specs.FileCalls.{operations_length}

@@ -19,7 +19,6 @@ use Rattle.sizes.specs.declared.Refusal.{Refusal}
 use Rattle.sizes.proofs.Judged.{number_of}
 use Rattle.file_tables.specs.FileTables.{table_refusal, TableMade}
 use Rattle.file_tables.proofs.Answers.{table-file, table_12, table_13, table_0, made-refused, table-accepted, scratch-accepted}
-use borrow.Author.Rules.{rules}
 use Rattle.file_tables.proofs.make_table.Goals.{After-check-refusal, After-grid_of-g, Else-number-ne0, Else-scratch-n, Else-table-g}
 use Rattle.file_tables.proofs.make_table.Goals as goal
 

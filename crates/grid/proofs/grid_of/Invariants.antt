@@ -6,7 +6,6 @@ use Prim.Native.Nat.{ℕ, ◌-◌}
 use lib.ListN.{take}
 use Rattle.bound.specs.Axes.{axis}
 use Rattle.formats.specs.Bytes.{format_of}
-use Rattle.grid.specs.Grid.{grid_of}
 use Rattle.grid.proofs.Filled.{Filled}
 use Rattle.places.specs.Places as Places
 use Rattle.places.specs.Places.{size}

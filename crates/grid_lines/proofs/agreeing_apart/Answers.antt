@@ -9,7 +9,7 @@ use Rattle.plan.proofs.Axes.{file-axis-most}
 use Rattle.plan.proofs.Numbers as plan
 use Rattle.rows.proofs.Writing.{before-row}
 use Rattle.line_outputs.proofs.AlongLines.{filled_on_grid}
-use Rattle.grid_lines.proofs.Lines.{Agreed, agreed_start, axis-at, last_on_grid, agreed_step}
+use Rattle.grid_lines.proofs.Lines.{agreed_start, axis-at, last_on_grid, agreed_step}
 use Rattle.grid_lines.proofs.agreeing_apart.Goals.{After-fill_row}
 use Rattle.grid_lines.proofs.agreeing_apart.Goals as goal
 

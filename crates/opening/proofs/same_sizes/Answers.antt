@@ -2,10 +2,8 @@
 -- are.
 -- Assumes nothing.
 use mathlib.Core.Path.{refl, sym, ◌∙◌}
-use Prim.Native.Nat.{◌-◌}
 use native.Mathlib.Omega.{arith}
 use borrow.Author.Tests.{eq-eqb, ne_eqb}
-use Rattle.ranges.specs.Search.{every}
 use Rattle.ranges.proofs.Search.{every-step, every-not, every_end}
 use Rattle.sizes.specs.Sizes.{max_inputs}
 use Rattle.sessions.specs.Session.{same_sizes}

@@ -9,7 +9,6 @@ use lib.Dec.{eqb}
 use lib.ListN.{get_or}
 use Rattle.ranges.specs.Search.{every}
 use Rattle.sizes.specs.Sizes.{max_inputs}
-use Rattle.sessions.specs.Session.{same_sizes}
 use Rattle.opening.proofs.same_sizes.Given as goal
 
 abbrev pub alike : List ℕ → List ℕ → ℕ → Bool

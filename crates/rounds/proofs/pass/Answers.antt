@@ -3,7 +3,7 @@
 use Rattle.std.proofs.Common.{◌≡◌, ◌+◌, ◌-◌, ◌*◌, ◌<◌, ◌≤◌, length, ◌∙◌, arith, length-drop, length-take}
 use native.Mathlib.Nat.{zero-mod, add-mod_right}
 use borrow.Rule.Slice.PartMut.{same_len_mid}
-use Rattle.rounds.specs.Passes.{factor, passed}
+use Rattle.rounds.specs.Passes.{factor}
 use Rattle.rounds.proofs.Multiples.{factors_least, multiple-least, multiple-next}
 use Rattle.rounds.proofs.Blocks.{pass_start, pass_step, pass_end}
 use Rattle.rounds.proofs.pass.Goals.{In-loop-at, Start}

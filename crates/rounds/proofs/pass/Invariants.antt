@@ -1,6 +1,6 @@
 -- `rounds::pass` meets its contract. The loop has the whole blocks before `at` passed over and the others as they were.
 -- The measure is what is left of the length. Assumes nothing.
-use Rattle.std.proofs.Common.{◌≡◌, ◌+◌, ◌-◌, ◌*◌, ◌%◌, ◌≤◌, ◌++◌, length, take, drop}
+use Rattle.std.proofs.Common.{◌≡◌, ◌-◌, ◌*◌, ◌%◌, ◌≤◌, ◌++◌, length, take, drop}
 use Rattle.rounds.specs.Passes.{factor, passed}
 use Rattle.rounds.proofs.pass.Given as goal
 

@@ -1,6 +1,6 @@
 -- `rounds::round` meets its contract. The loop keeps the first q entries as they were and those from q on as they are to be.
 -- The measure is q. Assumes nothing.
-use Rattle.std.proofs.Common.{◌≡◌, ℕ, suc, ◌-◌, length, set, sym, ap, ◌∙◌, arith, length-set}
+use Rattle.std.proofs.Common.{◌≡◌, ℕ, suc, ◌-◌, set, sym, ap, ◌∙◌, arith, length-set}
 use Rattle.rounds.specs.Passes.{factor, rounded}
 use Rattle.rounds.proofs.Splice.{splice}
 use Rattle.rounds.proofs.Rounds.{round_start, round_step, round_end}

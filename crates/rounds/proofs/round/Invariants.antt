@@ -1,6 +1,6 @@
 -- `rounds::round` meets its contract. The loop keeps the first q entries as they were and those from q on as they are to be.
 -- The measure is q. Assumes nothing.
-use Rattle.std.proofs.Common.{◌≡◌, ◌-◌, ◌≤◌, length}
+use Rattle.std.proofs.Common.{◌≡◌, ◌≤◌, length}
 use Rattle.rounds.specs.Passes.{factor, rounded}
 use Rattle.rounds.proofs.Splice.{splice}
 use Rattle.rounds.proofs.round.Given as goal

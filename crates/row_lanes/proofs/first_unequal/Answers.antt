@@ -3,11 +3,10 @@
 use mathlib.Core.Bool.{true, false}
 use mathlib.Core.List.{List}
 use mathlib.Core.Path.{◌≡◌, sym, ◌∙◌}
-use Prim.Native.Nat.{ℕ, ◌-◌, ◌%◌, ◌^◌}
+use Prim.Native.Nat.{ℕ, ◌%◌, ◌^◌}
 use native.Mathlib.Omega.{arith}
 use borrow.Author.Tests.{eq-eqb, ne_eqb}
 use Rattle.rows.specs.Rows.{lane}
-use Rattle.ranges.specs.Search.{first}
 use Rattle.ranges.proofs.Search.{first-start, first_step, first-here, first_end}
 use Rattle.row_lanes.specs.Lanes.{unequal}
 use Rattle.row_lanes.proofs.first_unequal.Goals as goal

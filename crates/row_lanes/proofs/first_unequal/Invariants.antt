@@ -2,7 +2,6 @@
 -- Assumes nothing.
 use mathlib.Core.Path.{◌≡◌}
 use Prim.Native.Nat.{◌-◌, ◌≤◌}
-use Rattle.rows.specs.Rows.{lane}
 use Rattle.ranges.specs.Search.{first}
 use Rattle.row_lanes.specs.Lanes.{unequal}
 use Rattle.row_lanes.proofs.first_unequal.Given as goal

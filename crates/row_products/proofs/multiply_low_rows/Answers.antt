@@ -2,7 +2,7 @@
 -- other entries as at entry. A product of two numbers of 32 bits fits.
 -- Assumes nothing.
 use mathlib.Core.Path.{ap₂}
-use Prim.Native.Nat.{ℕ, ◌-◌, ◌*◌, ◌%◌, ◌^◌}
+use Prim.Native.Nat.{ℕ, ◌*◌, ◌%◌, ◌^◌}
 use native.Mathlib.Omega.{arith}
 use Rattle.words.proofs.Halves.{product-most}
 use Rattle.rows.proofs.Writing.{left-row, right-row, row-start, row_step, row_end}

@@ -2,10 +2,9 @@
 -- entry: so the operands, in earlier rows, are read as they were.
 -- Assumes nothing.
 use mathlib.Core.Path.{◌∙◌, ap₂}
-use Prim.Native.Nat.{ℕ, ◌-◌, ◌*◌, ◌%◌, ◌^◌}
+use Prim.Native.Nat.{ℕ, ◌*◌, ◌%◌, ◌^◌}
 use borrow.Author.Rules.{rules}
 use Rattle.rows.proofs.Writing.{left-row, right-row, row-start, row_step, row_end, row_kept}
-use Rattle.row_products.specs.Products.{row_products}
 use Rattle.row_products.proofs.multiply_rows.Goals as goal
 
 pub loop-l-preserved : goal.loop-l-preserved

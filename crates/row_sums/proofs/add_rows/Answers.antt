@@ -1,8 +1,7 @@
 -- `row_sums::add_rows` meets its contract. The loop's invariant: the first l lanes of row k are the sums, the other entries as at entry.
 -- Assumes nothing.
-use Rattle.std.proofs.Common.{ℕ, ◌+◌, ◌-◌, ◌%◌, ◌^◌, ◌∙◌, ap₂}
+use Rattle.std.proofs.Common.{ℕ, ◌+◌, ◌%◌, ◌^◌, ◌∙◌, ap₂}
 use Rattle.rows.proofs.Writing.{left-row, right-row, row-start, row_step, row_end}
-use Rattle.row_sums.specs.Sums.{row_sums}
 use Rattle.row_sums.proofs.add_rows.Goals as goal
 
 pub row-x-requires : goal.row-x-requires

@@ -1,6 +1,6 @@
 -- `row_sums::subtract_rows` meets its contract. The loop's invariant: the first l lanes of row k are the differences, the other entries as at entry.
 -- Assumes nothing.
-use Rattle.std.proofs.Common.{◌-◌, arith}
+use Rattle.std.proofs.Common.{arith}
 use Rattle.rows.proofs.Writing.{left-row, right-row, row-start, row_step, row_end}
 use Rattle.row_sums.proofs.subtract_rows.Goals as goal
 

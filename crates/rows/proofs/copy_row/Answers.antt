@@ -1,7 +1,6 @@
 -- `rows::copy_row` meets its contract. The loop's invariant: the first l lanes of row k are those of the source's row, the other entries as at
 -- entry.
 -- Assumes nothing.
-use Prim.Native.Nat.{◌-◌}
 use Rattle.rows.proofs.Writing.{row-start, row_step, row_end}
 use Rattle.rows.proofs.copy_row.Goals as goal
 

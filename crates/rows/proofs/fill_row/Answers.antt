@@ -1,7 +1,6 @@
 -- `rows::fill_row` meets its contract. The loop's invariant: the first l lanes of row k are x, the other entries as at entry.
 -- Assumes nothing.
 use mathlib.Core.Path.{refl}
-use Prim.Native.Nat.{◌-◌}
 use Rattle.rows.proofs.Writing.{row-start, row_step, row_end}
 use Rattle.rows.proofs.fill_row.Goals as goal
 

@@ -1,7 +1,6 @@
 -- `rows::row` meets its contract. The loop's invariant: the first l entries of x are those of row k.
 -- Assumes nothing.
 use mathlib.Core.Path.{refl}
-use Prim.Native.Nat.{◌-◌}
 use native.Mathlib.Omega.{arith}
 use Rattle.rows.proofs.Writing.{put-start, put_step}
 use Rattle.rows.proofs.row.Goals as goal

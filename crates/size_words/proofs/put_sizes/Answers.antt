@@ -1,7 +1,7 @@
 -- `size_words::put_sizes` meets its contract. The loop's invariant: m and d are written, and the first i word lengths.
 -- Assumes nothing.
 use mathlib.Core.Path.{◌∙◌}
-use Prim.Native.Nat.{ℕ, ◌-◌}
+use Prim.Native.Nat.{ℕ}
 use native.Mathlib.Omega.{arith}
 use borrow.Author.Rules.{rules}
 use lib.ListN.{get_or, length-set}

@@ -1,10 +1,8 @@
 -- `size_words::size_bytes` meets its contract. The loop's invariant: all of the words fit a byte just where those from i on do.
 -- Assumes nothing.
 use mathlib.Core.Path.{sym, ◌∙◌}
-use Prim.Native.Nat.{◌-◌}
 use native.Mathlib.Omega.{arith}
 use borrow.Author.Tests.{lt-ltb, le-ltb}
-use Rattle.ranges.specs.Search.{every}
 use Rattle.ranges.proofs.Search.{every-start, every-step, every-not, every_end}
 use Rattle.layouts.specs.Lengths.{sizes_length}
 use Rattle.layouts.specs.SizeWords.{fits_byte, size_bytes}

@@ -4,7 +4,7 @@ use mathlib.Core.Path.{◌≡◌}
 use Prim.Native.Nat.{◌≤◌, ◌-◌}
 use Rattle.ranges.specs.Search.{every}
 use Rattle.layouts.specs.Lengths.{sizes_length}
-use Rattle.layouts.specs.SizeWords.{fits_byte, size_bytes}
+use Rattle.layouts.specs.SizeWords.{fits_byte}
 use Rattle.size_words.proofs.size_bytes.Given as goal
 
 abbrev pub invariant-loop-i : goal.invariant-loop-i

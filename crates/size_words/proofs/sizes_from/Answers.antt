@@ -2,7 +2,7 @@
 -- Assumes nothing.
 use mathlib.Core.List.{List, append-nil}
 use mathlib.Core.Path.{sym, ◌∙◌}
-use Prim.Native.Nat.{ℕ, ◌-◌, ◌<◌}
+use Prim.Native.Nat.{ℕ, ◌<◌}
 use native.Mathlib.Omega.{arith}
 use lib.ListN.{get_or, length-drop}
 use lib.Seq.{get_or-drop}

@@ -2,7 +2,6 @@
 -- Assumes nothing.
 use Prim.Native.Nat.{◌-◌}
 use lib.ListN.{drop, replicate}
-use Rattle.layouts.specs.SizeWords.{sizes_from}
 use Rattle.sizes.specs.Sizes.{max_inputs}
 use Rattle.slices.proofs.Copied.{Copied}
 use Rattle.size_words.proofs.sizes_from.Given as goal

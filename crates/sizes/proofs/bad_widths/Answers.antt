@@ -2,12 +2,10 @@
 -- Assumes nothing.
 use mathlib.Core.Bool.{not}
 use mathlib.Core.Path.{sym, ap, ◌∙◌}
-use Prim.Native.Nat.{◌-◌}
 use native.Mathlib.Omega.{arith}
 use borrow.Author.Rules.{rules}
-use Rattle.ranges.specs.Search.{every}
 use Rattle.ranges.proofs.Search.{every-start, every-step, every-not, every_end}
-use Rattle.sizes.specs.Sizes.{max_inputs, bad_widths, width_rule}
+use Rattle.sizes.specs.Sizes.{max_inputs, bad_widths}
 use Rattle.sizes.proofs.bad_widths.Goals as goal
 
 pub loop-i-init : goal.loop-i-init

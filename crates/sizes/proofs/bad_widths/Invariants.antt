@@ -3,7 +3,7 @@
 use mathlib.Core.Path.{◌≡◌}
 use Prim.Native.Nat.{◌≤◌, ◌-◌}
 use Rattle.ranges.specs.Search.{every}
-use Rattle.sizes.specs.Sizes.{max_inputs, bad_widths, width_rule}
+use Rattle.sizes.specs.Sizes.{max_inputs, width_rule}
 use Rattle.sizes.proofs.bad_widths.Given as goal
 
 abbrev pub invariant-loop-i : goal.invariant-loop-i

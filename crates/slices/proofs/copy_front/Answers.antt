@@ -1,7 +1,6 @@
 -- `slices::copy_front` meets its contract. The loop's invariant: the first i entries are copied, the others as at entry.
 -- Assumes nothing.
 use mathlib.Core.Path.{refl}
-use Prim.Native.Nat.{◌-◌}
 use Rattle.slices.proofs.Copied.{none, more, whole}
 use Rattle.slices.proofs.copy_front.Goals as goal
 

@@ -1,7 +1,7 @@
 -- `transform::passes` meets its contract. Before the axis i, the blocks of the grid of the axes from i on are done, and w is its size.
 -- The measure is i. Assumes nothing.
 use mathlib.Core.Path.{◌≡◌}
-use Prim.Native.Nat.{◌-◌, ◌≤◌}
+use Prim.Native.Nat.{◌≤◌}
 use lib.ListN.{length, take, drop}
 use Rattle.places.specs.Places.{size}
 use Rattle.rounds.specs.Passes.{factor}

@@ -1,7 +1,7 @@
 -- `vectors::advance` meets its contract. The loop's invariant: the entries from i on went to 0 from their last values, and the place is
 -- one block of the size of the axes from i on short of the next.
 -- Assumes nothing.
-use Rattle.std.proofs.Common.{◌≡◌, ℕ, suc, ◌+◌, ◌-◌, ◌*◌, ◌%◌, ◌^◌, ◌<◌, ◌≤◌, List, length, get_or, take, drop, set, sym, refl, ap, ◌∙◌, subst, arith, length-set, length-take, length-take-le, get_or-take}
+use Rattle.std.proofs.Common.{◌≡◌, ℕ, suc, ◌+◌, ◌-◌, ◌*◌, ◌%◌, ◌^◌, ◌<◌, ◌≤◌, List, length, get_or, take, drop, set, sym, refl, ap, ◌∙◌, subst, arith, length-set, length-take-le, get_or-take}
 use Rattle.places.specs.Places.{size, digits_at, place_of}
 use Rattle.places.proofs.Places.{one_to_one}
 use Rattle.sizes.specs.Sizes.{max_inputs}

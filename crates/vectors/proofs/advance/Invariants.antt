@@ -1,7 +1,7 @@
 -- `vectors::advance` meets its contract. The loop's invariant: the entries from i on went to 0 from their last values, and the place is
 -- one block of the size of the axes from i on short of the next.
 -- Assumes nothing.
-use Rattle.std.proofs.Common.{◌≡◌, ℕ, ◌+◌, ◌-◌, ◌≤◌, List, length, take, drop}
+use Rattle.std.proofs.Common.{◌≡◌, ℕ, ◌+◌, ◌≤◌, List, length, take, drop}
 use Rattle.places.specs.Places.{size, place_of}
 use Rattle.vectors.specs.Vectors.{Arrays, Placed}
 use Rattle.vectors.proofs.Digits.{Digits}

@@ -1,6 +1,6 @@
 -- `vectors::lowest_words` meets its contract. The loop's invariant: the words of the first i lowest values are in their place.
 -- Assumes nothing.
-use Rattle.std.proofs.Common.{◌≡◌, ◌-◌, ◌<◌, map, take, sym, refl, ap, ◌∙◌, subst, arith, w64, rules}
+use Rattle.std.proofs.Common.{◌≡◌, ◌<◌, take, sym, refl, ap, ◌∙◌, subst, arith, w64, rules}
 use mathlib.Core.List.{map-map}
 use mir.ValLaws.{to_z-of_z}
 use Rattle.formats.specs.Bytes.{format_of}

@@ -1,7 +1,7 @@
 -- `vectors::vector_at` meets its contract. The loop's invariant: the entries before i are 0, those from i on are the digits so far, and the
 -- rest counts blocks of the size of the axes from i on.
 -- Assumes nothing.
-use Rattle.std.proofs.Common.{◌≡◌, ℕ, ◌+◌, ◌-◌, ◌*◌, ◌<◌, ◌≤◌, List, length, get_or, take, drop}
+use Rattle.std.proofs.Common.{◌≡◌, ℕ, ◌+◌, ◌*◌, ◌<◌, ◌≤◌, List, length, get_or, take, drop}
 use Rattle.places.specs.Places.{size, place_of}
 use Rattle.vectors.specs.Vectors.{Arrays}
 use Rattle.vectors.proofs.Digits.{Digits}

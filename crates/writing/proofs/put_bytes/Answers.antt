@@ -1,10 +1,9 @@
 -- `writing::put_bytes` meets its contract. The loop's invariant: the first i bytes are written.
 -- Assumes nothing.
-use Prim.Native.Nat.{◌-◌}
 use mathlib.Core.Path.{refl}
 use native.Mathlib.Nat.{add-zero}
 use native.Mathlib.Omega.{arith}
-use lib.ListN.{length, length-set}
+use lib.ListN.{length-set}
 use Rattle.text.proofs.Over.{put-start, put_step, put_end}
 use Rattle.writing.proofs.put_bytes.Goals as goal
 

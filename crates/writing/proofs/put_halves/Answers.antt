@@ -1,6 +1,5 @@
 -- `writing::put_halves` meets its contract: the line is its first half up to the sign, and the numbers after that as a line. Assumes nothing.
 use mathlib.Core.List.{◌++◌}
-use borrow.Author.Rules.{rules}
 use Rattle.text.specs.Text.{line, spaced}
 use Rattle.text.specs.Writing.{RoomFor}
 use Rattle.text.proofs.Over.{room-first, room-second, put_then}

@@ -1,12 +1,11 @@
 -- `writing::put_numbers` meets its contract. The loop's invariant: the first i numbers are written, up to the next index.
 -- Assumes nothing.
-use Prim.Native.Nat.{◌-◌}
 use mathlib.Core.Path.{refl}
 use native.Mathlib.Omega.{arith}
 use borrow.Author.Rules.{rules}
 use lib.Seq.{take_all}
 use Rattle.text.specs.Decimal.{decimal}
-use Rattle.text.specs.Text.{spaced, spaced_by}
+use Rattle.text.specs.Text.{spaced_by}
 use Rattle.text.proofs.Over.{room-second, put-start, put_then}
 use Rattle.text.proofs.Spaced.{spaced-step, spaced-room}
 use Rattle.writing.proofs.put_numbers.Goals as goal

@@ -3,7 +3,6 @@ use mathlib.Core.List.{[], ◌∷◌, ◌++◌}
 use mathlib.Core.Path.{◌≡◌, sym, ◌∙◌}
 use Prim.Native.Nat.{◌+◌, ◌-◌, ◌^◌, ◌≤◌}
 use native.Mathlib.Omega.{arith}
-use borrow.Author.Rules.{rules}
 use Rattle.input_words.specs.InputWords.{value_of}
 use Rattle.text.specs.Decimal.{decimal, minus}
 use Rattle.text.specs.Text.{space, spaced, spaced_integers}

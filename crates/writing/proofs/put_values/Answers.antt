@@ -3,14 +3,12 @@
 -- Assumes nothing.
 use mathlib.Core.List.{List}
 use mathlib.Core.Path.{◌≡◌, refl}
-use Prim.Native.Nat.{◌-◌, ◌≤◌, ◌<◌}
+use Prim.Native.Nat.{◌≤◌, ◌<◌}
 use native.Mathlib.Omega.{arith}
 use borrow.Author.Rules.{rules}
-use borrow.Author.Tests.{ltb-true, ltb-false}
 use lib.IntN.{ℤ, pos}
 use lib.ListN.{length, get_or}
 use lib.Seq.{take_all}
-use Rattle.formats.specs.Bytes.{format_of}
 use Rattle.input_words.specs.InputWords.{value_of}
 use Rattle.text.specs.Decimal.{integer}
 use Rattle.text.specs.Text.{spaced_by, spaced_integers}

@@ -1,7 +1,6 @@
 -- `file::faults::faulty_step` meets its contract. The loop's invariant: the first faulty step of all is the first from step k on.
 -- Assumes nothing.
 use mathlib.Core.Path.{◌≡◌, sym, ap, ◌∙◌}
-use Prim.Native.Nat.{◌-◌}
 use native.Mathlib.Omega.{arith}
 use borrow.Author.Rules.{rules}
 use Rattle.ranges.specs.Search.{first}

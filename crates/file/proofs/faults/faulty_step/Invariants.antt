@@ -3,8 +3,7 @@
 use mathlib.Core.Path.{◌≡◌}
 use Prim.Native.Nat.{◌≤◌, ◌-◌}
 use Rattle.ranges.specs.Search.{first}
-use Rattle.file.proofs.Cases.{faulty}
-use Rattle.file.specs.Check.{faulty_at, faulty_step}
+use Rattle.file.specs.Check.{faulty_at}
 use Rattle.file.proofs.faults.faulty_step.Given as goal
 
 abbrev pub invariant-loop-k : goal.invariant-loop-k

@@ -117,6 +117,7 @@ pub fn larger(a: usize, b: usize) -> usize
 // The first place among the `count` from `from` on at which the outputs of two comparable files differ, or the end of
 // these where there is none. Fewer places than lanes are compared one by one, more in lanes. Past the larger N no
 // scratch entry is touched.
+#[tactic(auto, using(crate::proofs::Empty::first_of_none))]
 pub fn first_difference(
     file1: &[u8],
     file2: &[u8],

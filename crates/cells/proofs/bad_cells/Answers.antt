@@ -8,9 +8,9 @@ pub returns-then-cells-count : goal.returns-then-cells-count
 returns-then-cells-count c = sym (cells-short _ _ _ _ c.if-cells-count.true)
 
 pub returns-then-len-count : goal.returns-then-len-count
-returns-then-len-count c = sym (written-short _ _ _ _ (omega (arith, c.if-cells-count.false)) c.if-len-count.true)
+returns-then-len-count c = sym (written-short _ _ _ _ (omega arith) c.if-len-count.true)
 
 pub returns : goal.returns
 returns c =
     c.large_cell.ensures
-    ∙ sym (cells-judged _ _ _ _ (omega (arith, c.if-cells-count.false)) (omega (arith, c.if-len-count.false)))
+    ∙ sym (cells-judged _ _ _ _ (omega arith) (omega arith))

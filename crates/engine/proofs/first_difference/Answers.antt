@@ -3,7 +3,7 @@
 use mathlib.Core.Logic.{inl, inr}
 use mathlib.Core.List.{List}
 use mathlib.Core.Path.{◌≡◌, refl, sym, ◌∙◌, ap}
-use Prim.Native.Nat.{ℕ, ◌+◌, ◌-◌, ◌≤◌, max}
+use Prim.Native.Nat.{ℕ, ◌+◌, ◌-◌, ◌≤◌, ◌<◌, max}
 use native.Mathlib.Nat.{le-max_left, le-max_right}
 use native.Mathlib.Omega.{arith}
 use lib.ListN.{length}
@@ -19,41 +19,34 @@ use Rattle.engine.proofs.first_difference.Goals as goal
 -- the span of the `count` places from `from` on
 within :
     {s₁ s₂ : List ℕ} {p : Plan} → Planned s₁ s₂ p → (from count : ℕ) (scratch : List ℕ) → from + count ≤ p.size → max p.n1 p.n2 ≤ length scratch →
-    ¬ (count ≡ 0) → Within s₁ s₂ p (record { from = from; end = from + count }) scratch
+    0 < count → Within s₁ s₂ p (record { from = from; end = from + count }) scratch
 unfolding grid_size
 within k from count scratch inside room some =
     record { planned = k; some = omega arith; inside = rw (plan.grid k) (rw (plan.vectors k) at inside); room = room }
-
--- no place at all
-empty : (from count : ℕ) → count ≡ 0 → from + count - from ≡ 0
-empty from count e = omega arith
 
 -- the larger count bounds both
 both : (a b n c : ℕ) → n ≡ max a b → n ≤ c → (a ≤ c) × (b ≤ c)
 both a b n c e h = (omega (arith, le-max_left a b), omega (arith, le-max_right a b))
 
-pub returns-then-count-eq0 : goal.returns-then-count-eq0
-returns-then-count-eq0 c = record { found = sym (ap (first _ _) (empty _ _ c.if-count-eq0.true) ∙ first-empty _ _); kept = refl }
-
 pub by_places-requires : goal.by_places-requires
-by_places-requires c = within c.requires.planned _ _ _ c.requires.count_bound c.requires.n2_in_bounds c.if-count-eq0.false
+by_places-requires c = within c.requires.planned _ _ _ c.requires.count_bound c.requires.n2_in_bounds (omega arith)
 
 pub in_short_lanes-requires : goal.in_short_lanes-requires
-in_short_lanes-requires c = record { within = within c.requires.planned _ _ _ c.requires.count_bound c.requires.n2_in_bounds c.if-count-eq0.false; n1_le_short = both _ _ _ _ c.larger-n.ensures c.if-n-le-SHORT.true }
+in_short_lanes-requires c = record { within = within c.requires.planned _ _ _ c.requires.count_bound c.requires.n2_in_bounds (omega arith); n1_le_short = both _ _ _ _ c.larger-n.ensures (omega arith) }
 
 pub in_middle_lanes-requires : goal.in_middle_lanes-requires
-in_middle_lanes-requires c = record { within = within c.requires.planned _ _ _ c.requires.count_bound c.requires.n2_in_bounds c.if-count-eq0.false; n1_le_middle = both _ _ _ _ c.larger-n.ensures c.if-n-le-MIDDLE.true }
+in_middle_lanes-requires c = record { within = within c.requires.planned _ _ _ c.requires.count_bound c.requires.n2_in_bounds (omega arith); n1_le_middle = both _ _ _ _ c.larger-n.ensures (omega arith) }
 
 pub in_long_lanes-requires : goal.in_long_lanes-requires
 in_long_lanes-requires c =
     record {
-      within = within c.requires.planned _ _ _ c.requires.count_bound c.requires.n2_in_bounds c.if-count-eq0.false;
+      within = within c.requires.planned _ _ _ c.requires.count_bound c.requires.n2_in_bounds (omega arith);
       width = (
         inl refl,
-        omega (arith, c.if-n-le-LONG_ROWS.true, c.larger-n.ensures, le-max_left c.args.plan.n1 c.args.plan.n2),
-        omega (arith, c.if-n-le-LONG_ROWS.true, c.larger-n.ensures, le-max_right c.args.plan.n1 c.args.plan.n2),
+        omega (arith, c.larger-n.ensures, le-max_left c.args.plan.n1 c.args.plan.n2),
+        omega (arith, c.larger-n.ensures, le-max_right c.args.plan.n1 c.args.plan.n2),
       );
     }
 
 pub in_long_lanes-requires-2 : goal.in_long_lanes-requires-2
-in_long_lanes-requires-2 c = let k = c.requires.planned in record { within = within c.requires.planned _ _ _ c.requires.count_bound c.requires.n2_in_bounds c.if-count-eq0.false; width = (inr refl, omega (arith, plan.count₁ k, k.files.sound₁.count_high), omega (arith, plan.count₂ k, k.files.sound₂.count_high)) }
+in_long_lanes-requires-2 c = let k = c.requires.planned in record { within = within c.requires.planned _ _ _ c.requires.count_bound c.requires.n2_in_bounds (omega arith); width = (inr refl, omega (arith, plan.count₁ k, k.files.sound₁.count_high), omega (arith, plan.count₂ k, k.files.sound₂.count_high)) }

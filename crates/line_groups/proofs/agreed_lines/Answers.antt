@@ -243,22 +243,7 @@ agreeing_lanes-l-requires c =
     }
 
 pub overflow_add-result : goal.overflow_add-result
-overflow_add-result c = omega (arith, c.loop-r-test.true, c.if-l-w.true, stop-fits c.loop-r.invariant)
-
-pub shape_of-rows-then-l-w : goal.shape_of-rows-then-l-w
-shape_of-rows-then-l-w c = c.agreeing_lanes-l.auto.rows ∙ c.loop-r.invariant.long₁
-
-pub shape_of-other-then-l-w : goal.shape_of-other-then-l-w
-shape_of-other-then-l-w c = c.agreeing_lanes-l.auto.other ∙ c.loop-r.invariant.long₂
-
-pub shape_of-list1-then-l-w : goal.shape_of-list1-then-l-w
-shape_of-list1-then-l-w c = c.list_dependent-c1.auto.list
-
-pub shape_of-list2-then-l-w : goal.shape_of-list2-then-l-w
-shape_of-list2-then-l-w c = c.list_dependent-c2.auto.list
-
-pub shape_of-flags-then-l-w : goal.shape_of-flags-then-l-w
-shape_of-flags-then-l-w c = c.list_dependent-c2.auto.flags ∙ c.list_dependent-c1.auto.flags
+overflow_add-result c = omega (arith, c.loop-r-test.true, stop-fits c.loop-r.invariant)
 
 pub returns-then-l-w : goal.returns-then-l-w
 returns-then-l-w c =
@@ -266,7 +251,7 @@ returns-then-l-w c =
     let k = c.loop-r.invariant in
     record {
       low = omega (arith, k.low);
-      high = omega (arith, k.high, t, c.if-l-w.true);
+      high = omega (arith, k.high, t);
       agree = passed k t c.set_lanes.new.inputs c.set_lanes.ensures.set _ c.agreeing_lanes-l.ensures.high c.agreeing_lanes-l.ensures.agree;
       kept = flags-kept (goal.at.returns-then-l-w c).After-list_dependent-c2;
     }
@@ -281,7 +266,7 @@ pub loop-r-preserved : goal.loop-r-preserved
 loop-r-preserved c =
     let k = c.loop-r.invariant in
     more k c.loop-r-test.true c.set_lanes.new.inputs c.set_lanes.ensures.set _ c.agreeing_lanes-l.ensures.high c.agreeing_lanes-l.ensures.agree _ _ _ c.agreeing_lanes-l.auto.rows
-    c.agreeing_lanes-l.auto.other (c.agreeing_lanes-l.auto.inputs ∙ c.set_lanes.auto.inputs ∙ k.lanes) c.if-l-w.false
+    c.agreeing_lanes-l.auto.other (c.agreeing_lanes-l.auto.inputs ∙ c.set_lanes.auto.inputs ∙ k.lanes) (omega arith)
 
 pub shape_of-rows : goal.shape_of-rows
 shape_of-rows c = c.loop-r.invariant.long₁

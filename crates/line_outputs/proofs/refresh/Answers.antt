@@ -3,10 +3,7 @@
 use Rattle.std.proofs.Common.{arith}
 use Rattle.line_outputs.proofs.refresh.Goals as goal
 
-pub returns-then-t-eq0 : goal.returns-then-t-eq0
-returns-then-t-eq0 c = λ j l x y h rest beside reads held. c.run_all.ensures l y h reads
-
 pub returns : goal.returns
 returns c =
     λ j l x y h rest beside reads held.
-    c.run_listed.ensures j l x y h rest beside reads (held (omega (arith, c.if-t-eq0.false)))
+    c.run_listed.ensures j l x y h rest beside reads (held (omega arith))

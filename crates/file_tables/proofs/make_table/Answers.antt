@@ -19,7 +19,7 @@ use Rattle.sizes.specs.declared.Refusal.{Refusal}
 use Rattle.sizes.proofs.Judged.{number_of}
 use Rattle.file_tables.specs.FileTables.{table_refusal, TableMade}
 use Rattle.file_tables.proofs.Answers.{table-file, table_12, table_13, table_0, made-refused, table-accepted, scratch-accepted}
-use Rattle.file_tables.proofs.make_table.Goals.{After-check-refusal, After-grid_of-g, Else-number-ne0, Else-scratch-n, Else-table-g}
+use Rattle.file_tables.proofs.make_table.Goals.{After-check-refusal, After-grid_of-g, Else-number-ne0, Else-scratch-n}
 use Rattle.file_tables.proofs.make_table.Goals as goal
 
 -- a refused call leaves both slices
@@ -42,12 +42,6 @@ room c = omega (arith, c.if-scratch-n.false, c.step_count-n.ensures)
 
 cells : (c : After-grid_of-g) → c.grid_of-g.result.size ≡ grid_size (sizes_of c.args.file.now)
 cells c = grid-size _ _ c.grid_of-g.ensures ∙ ap grid_size c.read_sizes-z.ensures
-
-taken : (c : Else-table-g) → let a = c.args in table_refusal a.file.now (length a.scratch.now) (length a.table.now) ≡ accepted
-taken c =
-    let accepted = sym (number_of c.check-refusal.ensures ∙ refusal-number _ 1) ∙ c.if-number-ne0.false in
-    let size = grid-size _ _ c.grid_of-g.ensures ∙ ap grid_size c.read_sizes-z.ensures in
-    table_0 _ _ _ accepted (omega (arith, c.if-scratch-n.false, c.step_count-n.ensures)) (omega (arith, c.if-table-g.false, size))
 
 pub returns-then-number-ne0 : goal.returns-then-number-ne0
 returns-then-number-ne0 c = refused _ _ _ _ (c.check-refusal.ensures ∙ sym (table-file _ _ _ (λ e. c.if-number-ne0.true (file-number (goal.at.returns-then-number-ne0 c).After-check-refusal ∙ e)))) c.if-number-ne0.true
@@ -81,15 +75,16 @@ fill_table-requires c =
       sizes = c.read_sizes-z.ensures;
       grid = c.grid_of-g.ensures;
       room = c.if-scratch-n.false;
-      table_room = c.if-table-g.false;
+      table_room = omega arith;
     }
 
 pub returns : goal.returns
 returns c =
     let a = c.args in
-    let n = number_of (taken (goal.at.returns c).Else-table-g) in
+    let taken = table_0 a.file.now (length a.scratch.now) (length a.table.now) (sound (goal.at.returns c).Else-number-ne0) (room (goal.at.returns c).Else-scratch-n) (omega (arith, cells (goal.at.returns c).After-grid_of-g)) in
+    let n = number_of taken in
     record {
-      refusal = c.refused_by-2.ensures ∙ sym (taken (goal.at.returns c).Else-table-g);
+      refusal = c.refused_by-2.ensures ∙ sym taken;
       table = c.fill_table.ensures.table ∙ sym (table-accepted a.file.now (length a.scratch.now) a.table.now n);
       scratch = c.fill_table.ensures.scratch ∙ sym (scratch-accepted a.file.now a.scratch.now a.table.now n);
     }

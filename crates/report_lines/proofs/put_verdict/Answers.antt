@@ -1,6 +1,7 @@
 -- `report_lines::put_verdict` meets its contract, by the kind of the answer. Assumes nothing.
-use mathlib.Core.Path.{ap}
+use mathlib.Core.Path.{◌≡◌, ap}
 use Rattle.sessions.specs.declared.Kind.{Kind}
+use Rattle.sessions.specs.declared.Kind.TheVariants.{Equivalent, Differs}
 use Rattle.printed.specs.Report.{shown_text}
 use Rattle.printed.specs.Lines.{equivalent_line}
 use Rattle.text.proofs.Over.{put-start}
@@ -9,12 +10,13 @@ use Rattle.report_lines.proofs.put_verdict.Goals as goal
 pub put_bytes-requires : goal.put_bytes-requires
 unfolding shown_text equivalent_line
 put_bytes-requires c =
-    let told = c.in-Equivalent.is in
+    let told : c.args.answer.kind ≡ Equivalent = cc in
     rw told at c.requires.room_for
 
 pub put_difference-requires : goal.put_difference-requires
 put_difference-requires c =
-    let shown = ap (λ (k : Kind). shown_text k c.args.sizes c.args.answer) c.in-Differs.is in
+    let told : c.args.answer.kind ≡ Differs = cc in
+    let shown = ap (λ (k : Kind). shown_text k c.args.sizes c.args.answer) told in
     record { d_le_max_inputs = c.requires.d_le_max_inputs; room_for = rw shown at c.requires.room_for }
 
 pub returns-in-Refused : goal.returns-in-Refused

@@ -17,7 +17,7 @@ returns-then-words-i-ge256 c = sym (c.loop-i.invariant.1 ∙ every-not _ _ sizes
 
 pub loop-i-preserved : goal.loop-i-preserved
 unfolding fits_byte
-loop-i-preserved c = (omega arith, c.loop-i.invariant.1 ∙ every-step _ _ sizes_length c.loop-i-test.true (lt-ltb _ _ c.if-words-i-ge256.false))
+loop-i-preserved c = (omega arith, c.loop-i.invariant.1 ∙ every-step _ _ sizes_length c.loop-i-test.true (lt-ltb _ _ (omega arith)))
 
 pub returns : goal.returns
 unfolding size_bytes

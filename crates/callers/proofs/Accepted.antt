@@ -65,7 +65,7 @@ use Rattle.file_tables.specs.FileTables.{table_refusal, made_table, table_scratc
 use Rattle.file_tables.proofs.Answers.{made, table_0, table-accepted, scratch-accepted}
 use Rattle.tables.specs.Tables.{differenced, summed_up}
 use Rattle.sizes.proofs.Padded.{length-padded, padded-entry}
-use Rattle.callers.specs.AcceptedInC.{Checked, Stretched, From1To64, Bounded, Gridded, Evaluated, Tabled, Continued, CellsWritten, SumOfTableInC, DifferenceOfSumInC, SumOfDifferenceInC, AcceptedInC}
+use Rattle.callers.specs.AcceptedInC.{Checked, Stretched, From1To64, Bounded, Gridded, Evaluated, Tabled, Continued, CellsWritten, DifferenceOfSumInC, SumOfDifferenceInC, AcceptedInC}
 use Rattle.callers.proofs.Refused.{right-told, right-left}
 
 -- what a call that returned 1 wrote
@@ -325,12 +325,6 @@ module _ (z x y q y' q' : List ℕ) (v : Sizes) (c w : List ℕ) (same : sizes_f
 cells-passed : (z : Sizes) (cells : List ℕ) (len : ℕ) → (cells_refusal z cells len).number ≡ 0 → cells_refusal z cells len ≡ accepted
 cells-passed z cells len e = cells-accepted z cells len (cells-taken z cells len e)
 
-sum_of_table_lem : SumOfTableInC
-sum_of_table_lem f s t o s' t' o' h zero y q y' q' k room =
-    let p = sum_of_made f (length s) t y (table-passed f s t o s' t' o' h zero) room in
-    summed-next (size_words (sizes_of f)) t' y q y' q' (sizes_of f) (made_table f (length s) t) _
-    (file-back f s t o s' t' o' h zero) (table-said f s t o s' t' o' h zero) k p.0 p.1
-
 -- a first call that is accepted
 first-passed :
     (z x y o o' : List ℕ) → 1 ≡ returned (cells_fit z o) →
@@ -362,7 +356,10 @@ accepted_in_c =
       evaluating = evaluated;
       making = tabled;
       continuing = carried_on;
-      sum_of_table = sum_of_table_lem;
+      sum_of_table = λ f s t o s' t' o' h zero y q y' q' k room.
+          let p = sum_of_made f (length s) t y (table-passed f s t o s' t' o' h zero) room in
+          summed-next (size_words (sizes_of f)) t' y q y' q' (sizes_of f) (made_table f (length s) t) _
+          (file-back f s t o s' t' o' h zero) (table-said f s t o s' t' o' h zero) k p.0 p.1;
       difference_of_sum = difference_of_sum_lem;
       sum_of_difference = sum_of_difference_lem;
     }

@@ -3,6 +3,7 @@ use mathlib.Core.Bool.{true, false}
 use mathlib.Core.List.{List, [], ◌∷◌}
 use mathlib.Core.Path.{◌≡◌, sym, ◌∙◌, ap}
 use Prim.Native.Nat.{ℕ, ◌≤◌, ◌<◌}
+use native.Mathlib.Decide.{ℕ_discrete}
 use lib.ListN.{length}
 use borrow.Author.Tests.{eq-eqb, ne_eqb, lt-leb, le-leb}
 use Rattle.layouts.specs.AnswerWords.{answer_fits, answer_from}
@@ -12,6 +13,14 @@ use Rattle.sessions.specs.declared.Answer.{Answer}
 use Rattle.report.specs.Writing.{TextWritten}
 use Rattle.report.proofs.Texts.{reported-whole}
 use Rattle.report_calls.specs.ReportCalls.{report_length, report_fits, report_text, ReportCall}
+
+pub text_short : (a t o : List ℕ) → length t < text_room → report_fits a t o ≡ false
+unfolding report_fits
+text_short a t o l =
+    elim (ℕ_discrete (length a) answer_length) [
+      | yes e ↦ rw (eq-eqb (length a) answer_length e, lt-leb text_room (length t) l)
+      | no n ↦ rw (ne_eqb (length a) answer_length n)
+    ]
 
 module _ (f₁ f₂ a : List ℕ) (n : ℕ) (t o : List ℕ) where
   report_wrong : report_fits a t o ≡ false → ReportCall f₁ f₂ a n t o 0 t o

@@ -12,6 +12,7 @@ const REPORT_LENGTH: usize = 1;
 
 // Writes the text of a continue call's answer, given as words, at the start of the text slice, and its count of bytes
 // into out; `run` is the vectors run over all calls. An answer of no kind has no text. Nothing else is touched.
+#[tactic(auto, using(crate::proofs::Reports::text_short))]
 pub fn report_call(
     file1: &[u8],
     file2: &[u8],

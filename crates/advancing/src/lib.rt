@@ -1,9 +1,9 @@
 // An accepted continue call: the vectors run, and what they come to.
 #![tactic(auto)]
 
-ghost use Rattle.std.specs.Prelude.{◌≡◌, ◌≤◌, ◌<◌, min, max, length};
+ghost use Rattle.std.specs.Prelude.{◌≡◌, ◌≤◌, ◌<◌, max, length};
 ghost use Rattle.plan.specs.Plan.{Planned};
-ghost use Rattle.sessions.specs.Session.{plain_answer, moved_to};
+ghost use Rattle.sessions.specs.Session.{plain_answer};
 ghost use Rattle.advancing.specs.Advancing.{DifferenceShown, Advanced};
 
 use engine::first_difference;
@@ -13,14 +13,8 @@ use sessions::{Answer, Continued, Kind, Mark, Session};
 use sizes::{INPUTS, refused_by};
 use vectors::vector_at;
 
-// The smaller of two counts.
-fn smaller(a: u64, b: u64) -> u64
-    ensures { result ≡ min a b }
-{
-    if a < b { a } else { b }
-}
-
 // An answer with no vector to show, after `run` vectors.
+#[tactic(auto, unfolding(sessions::specs::Session::plain_answer))]
 fn plain_answer(kind: Kind, run: u64) -> Answer
     ensures { result ≡ plain_answer kind run }
 {
@@ -28,7 +22,7 @@ fn plain_answer(kind: Kind, run: u64) -> Answer
         refusal: refused_by(0),
         kind,
         run,
-        vector: [0u64; INPUTS],
+        vector: [0; INPUTS],
         output1: 0,
         output2: 0,
     }
@@ -49,9 +43,7 @@ fn differs_answer(
     ensures { DifferenceShown file1.now file2.now plan place run scratch.old result
         scratch.new }
 {
-    let axes = plan.axes;
-    let lows = plan.lows;
-    let vector = vector_at(axes, lows, plan.d, place);
+    let vector = vector_at(plan.axes, plan.lows, plan.d, place);
     let output1 = output_at(file1, plan.n1, &vector, scratch);
     let output2 = output_at(file2, plan.n2, &vector, scratch);
     Answer {
@@ -61,18 +53,6 @@ fn differs_answer(
         vector,
         output1,
         output2,
-    }
-}
-
-// The session moved to a position under a mark.
-fn moved(session: Session, position: u64, mark: Mark) -> Session
-    ensures { result ≡ moved_to session position mark }
-{
-    let sizes = session.sizes;
-    Session {
-        sizes,
-        position,
-        mark,
     }
 }
 
@@ -91,22 +71,36 @@ pub fn advance(
     ensures { Advanced file1.now file2.now plan session budget scratch.old result
         scratch.new }
 {
-    let size = plan.size;
     let position = session.position;
-    let left = size - position;
-    let count = smaller(budget, left);
+    let left = plan.size - position;
+    let count = budget.min(left);
     let place = first_difference(file1, file2, plan, position, count, scratch);
     if place < position + count {
-        let answer = differs_answer(file1, file2, plan, place, place + 1 - position, scratch);
-        let session = moved(session, place + 1, Mark::Differ);
-        return Continued { session, answer };
+        return Continued {
+            answer: differs_answer(file1, file2, plan, place, place + 1 - position, scratch),
+            session: Session {
+                position: place + 1,
+                mark: Mark::Differ,
+                ..session
+            },
+        };
     }
     if left <= budget {
-        let answer = plain_answer(Kind::Equivalent, left);
-        let session = moved(session, size, Mark::Equal);
-        return Continued { session, answer };
+        return Continued {
+            answer: plain_answer(Kind::Equivalent, left),
+            session: Session {
+                position: plan.size,
+                mark: Mark::Equal,
+                ..session
+            },
+        };
     }
-    let answer = plain_answer(Kind::Spent, budget);
-    let session = moved(session, position + budget, Mark::Open);
-    Continued { session, answer }
+    Continued {
+        answer: plain_answer(Kind::Spent, budget),
+        session: Session {
+            position: position + budget,
+            mark: Mark::Open,
+            ..session
+        },
+    }
 }

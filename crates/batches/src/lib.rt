@@ -19,7 +19,7 @@ use vectors::{advance, vector_at};
 pub const AXIS: usize = 66;
 
 // How two files are run in lanes: the lanes of a row, and whether the files are run in turn in the same rows or have
-// rows of their own each.
+// rows of their own each. Each way has its own contracts, so that a test once a batch tells them apart.
 #[derive(Clone, Copy)]
 pub struct Shape {
     pub w: usize,
@@ -43,11 +43,9 @@ pub fn set_lanes(
 {
     let mut v = vector_at(axes, lows, d, p);
     set_column(inputs, 0, v, w);
-    let mut l = 1;
-    while l < live {
+    for l in 1..live {
         advance(&axes, &lows, d, &mut v);
         set_column(inputs, l, v, w);
-        l += 1;
     }
 }
 
@@ -60,10 +58,8 @@ fn fill_lanes(inputs: &mut [u64], lows: [u64; INPUTS], d: usize, places: u64, w:
     if w as u64 <= places {
         return;
     }
-    let mut i = 0;
-    while i < d {
+    for i in 0..d {
         fill_row(inputs, i, lows[i], w);
-        i += 1;
     }
 }
 
@@ -87,20 +83,15 @@ fn first_in_batch(
     ensures { BatchRun shape.w file1.now file2.now p live inputs.new result }
 {
     let w = shape.w;
-    let m = plan.m;
-    let n1 = plan.n1;
-    let n2 = plan.n2;
-    let axes = plan.axes;
-    let lows = plan.lows;
-    set_lanes(inputs, axes, lows, plan.d, p, live, w);
-    run_all(file1, n1, inputs, rows, w);
+    set_lanes(inputs, plan.axes, plan.lows, plan.d, p, live, w);
+    run_all(file1, plan.n1, inputs, rows, w);
     if shape.turn {
-        copy_row(rows, n1 - 1, other, 0, w);
-        run_all(file2, n2, inputs, rows, w);
-        return first_unequal(other, 0, rows, n2 - 1, m, live, w);
+        copy_row(rows, plan.n1 - 1, other, 0, w);
+        run_all(file2, plan.n2, inputs, rows, w);
+        return first_unequal(other, 0, rows, plan.n2 - 1, plan.m, live, w);
     }
-    run_all(file2, n2, inputs, other, w);
-    first_unequal(rows, n1 - 1, other, n2 - 1, m, live, w)
+    run_all(file2, plan.n2, inputs, other, w);
+    first_unequal(rows, plan.n1 - 1, other, plan.n2 - 1, plan.m, live, w)
 }
 
 // The first place from `from` to before `end` at which the outputs differ, or `end` where there is none.
@@ -119,13 +110,12 @@ pub fn by_batches(
     ensures { Found file1.now file2.now from end result }
 {
     let mut inputs = [0u64; LANES * INPUTS];
-    let lows = plan.lows;
-    fill_lanes(&mut inputs, lows, plan.d, end - from, shape.w);
+    fill_lanes(&mut inputs, plan.lows, plan.d, end - from, shape.w);
     let wide = shape.w as u64;
     let mut p = from;
+    // Not a `for`: how far p goes is found in the loop.
     while p < end {
-        let rest = end - p;
-        let live = if rest < wide { rest } else { wide };
+        let live = wide.min(end - p);
         let l = first_in_batch(
             file1,
             file2,

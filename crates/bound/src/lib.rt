@@ -16,7 +16,7 @@ fn listed_bound(m: u64) -> u64
     requires { (1 ≤ m) × (m ≤ 64) }
     ensures { result ≡ bound m }
 {
-    BOUNDS[(m - 1) as usize]
+    BOUNDS[m as usize - 1]
 }
 
 // L(m) by algorithm 1 of document 002, for m from 1 to 64: m plus the quotients of what remains of it by 2^v - 1, for
@@ -25,14 +25,12 @@ pub fn bound(m: u64) -> u64
     requires { (1 ≤ m) × (m ≤ 64) }
     ensures { result ≡ bound m }
 {
-    let mut rem = m as u32;
-    let mut v = 31 - u32::leading_zeros(1 + rem);
-    let mut n: u32 = 0;
-    while rem != 0 {
-        let a = (1u32 << v) - 1;
-        n = n + rem / a;
-        rem = rem % a;
-        v = v - 1;
+    let mut rem = m;
+    let mut n = 0;
+    for v in (1..(1 + m).ilog2() + 1).rev() {
+        let a = (1 << v) - 1;
+        n += rem / a;
+        rem %= a;
     }
-    m + n as u64
+    m + n
 }

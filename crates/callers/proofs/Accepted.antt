@@ -16,11 +16,11 @@ use Rattle.bound.proofs.Algorithm.{least_bound}
 use Rattle.bound.proofs.Table.{axis_by_least}
 use Rattle.bound.proofs.Quotients.{bound_exponents}
 use Rattle.evaluate.specs.Evaluate.{refusal_at, evaluated_at, evaluated_scratch}
-use Rattle.evaluate.specs.declared.Evaluated.{Evaluated as Answer}
+use Rattle.evaluate.specs.Evaluate.{Evaluated as Answer}
 use Rattle.evaluate.proofs.Answers.{answer-accepted}
 use Rattle.evaluate.proofs.Taken.{evaluate_exactly, full_vector_width}
 use Rattle.figures.specs.Figures.{figures_of, bound_answered, bound_refused}
-use Rattle.figures.specs.declared.Figures.{Figures}
+use Rattle.figures.specs.Figures.{Figures}
 use Rattle.figures.proofs.Exactly.{figures_inside, figures_outside}
 use Rattle.file.specs.Accepted.{Accepted}
 use Rattle.file.specs.Check.{file_number, refusal_of}

@@ -10,7 +10,7 @@ use lib.ListN.{length}
 use borrow.Author.Tests.{eq-eqb, ne_eqb}
 use Rattle.evaluate.specs.Evaluate.{short_scratch, bad_vector, refusal_at, evaluated_at}
 use Rattle.figures.specs.Figures.{figures_of}
-use Rattle.figures.specs.declared.Figures.{Figures}
+use Rattle.figures.specs.Figures.{Figures}
 use Rattle.file.specs.Check.{file_number, refusal_of}
 use Rattle.fields.specs.File.{sizes_of, step_count}
 use Rattle.grid.specs.Grid.{grid_size, grid_of}

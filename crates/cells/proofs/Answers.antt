@@ -1,19 +1,26 @@
 -- The cases of what differencing and summing refuse: 13 by the tests that led to it, each refusal under what was judged before it, and what an
 -- answer of number 0 tells.
 use mathlib.Core.Path.{◌≡◌, refl, sym, ◌∙◌, ap}
-use mathlib.Core.Bool.{Bool, true, false, not, ◌||◌, true≢false}
+use mathlib.Core.Bool.{Bool, true, false, not, ◌||◌, ◌&&◌, true≢false}
 use mathlib.Core.List.{List}
 use mathlib.Core.Logic.{inl, inr}
-use Prim.Native.Nat.{ℕ, ◌<◌, ◌≤◌}
+use Prim.Native.Nat.{ℕ, zero, suc, ◌+◌, ◌≤◌, ◌%◌, ◌^◌}
 use native.Mathlib.Decide.{ℕ_discrete}
 use native.Mathlib.Omega.{arith}
-use lib.ListN.{length}
+use lib.ListN.{length, get_or, take, drop}
+use lib.Seq.{drop-cons}
+use native.Mathlib.Numerals.{add-one}
+use Rattle.std.specs.List.{list_any}
+use lib.Dec.{eqb}
+use lib.Pow.{pow_pos}
+use Rattle.file.proofs.Cases.{own-remainder}
 use borrow.Author.Tests.{lt-ltb, le-ltb, ltb-true, ltb-false, eq-eqb, ne_eqb, not-false}
 use Rattle.grid.specs.Grid.{grid_size}
-use Rattle.ranges.proofs.Search.{true_or_false, every-at, every_of}
-use Rattle.sizes.specs.Sizes.{Ruled, refused_by, accepted, sizes_refusal}
+use Rattle.ranges.specs.Search.{every}
+use Rattle.ranges.proofs.Search.{true_or_false, cond_each, every-at, every_of}
+use Rattle.sizes.specs.Sizes.{Ruled, refused_by, accepted, accepts, sizes_refusal}
 use Rattle.sizes.specs.declared.Sizes.{Sizes}
-use Rattle.sizes.proofs.Judged.{number_of, sizes-accepted, sizes-ruled}
+use Rattle.sizes.proofs.Judged.{number_of, sizes-accepted, sizes-accepts, sizes-ruled}
 use Rattle.cells.specs.Taken.{Fitting, CellsTaken}
 use Rattle.cells.specs.Cells.{small_cell, large_cell, bad_cells, cells_refusal}
 
@@ -21,16 +28,25 @@ neither : (a b : Bool) → (a || b) ≡ false → (a ≡ false) × (b ≡ false)
 neither true b e = absurd (true≢false e)
 neither false b e = (refl, e)
 
+-- a number is below 2^m exactly where its cut to m bits is itself
+module _ (m : ℕ) (cells : List ℕ) where
+  large-from : (k j : ℕ) → j + k ≤ length cells → list_any (λ x. not (eqb (x % 2 ^ m) x)) (take k (drop j cells)) ≡ not (every (small_cell m cells) j k)
+  unfolding every small_cell
+  large-from zero j h = refl
+  large-from (suc k) j h =
+      let later = rw (add-one j) at (large-from k (j + 1) (omega arith)) in
+      rw (drop-cons cells j 0 (omega arith), add-one j, own-remainder (get_or cells j 0) (2 ^ m) (pow_pos m), later) (or_not _ _)
+    where
+      or_not : (a b : Bool) → (not a || not b) ≡ not (a && b)
+      or_not true b = refl
+      or_not false b = refl
+
+  pub any_large : (g : ℕ) → g ≤ length cells → list_any (λ x. not (eqb (x % 2 ^ m) x)) (take g cells) ≡ large_cell m g cells
+  unfolding large_cell
+  any_large g h = large-from g 0 (omega arith)
+
 module _ (m g : ℕ) (cells : List ℕ) (len : ℕ) where
-  pub cells-short : length cells < g → bad_cells m g cells len ≡ true
-  unfolding bad_cells
-  cells-short l = rw (lt-ltb (length cells) g l)
-
   module _ (h : g ≤ length cells) where
-    pub written-short : len < g → bad_cells m g cells len ≡ true
-    unfolding bad_cells
-    written-short l = rw (le-ltb (length cells) g h, lt-ltb len g l)
-
     pub cells-judged : g ≤ len → bad_cells m g cells len ≡ large_cell m g cells
     unfolding bad_cells
     cells-judged l = rw (le-ltb (length cells) g h, le-ltb len g l)
@@ -76,3 +92,11 @@ module _ (z : Sizes) (cells : List ℕ) (len : ℕ) where
               | inr b ↦ record { sizes = r; fits = fitting b }
             ]
       ]
+
+-- an accepted call shows nothing
+pub cells-accepts : (z : Sizes) (cells : List ℕ) (len : ℕ) → accepts (cells_refusal z cells len) ≡ true → cells_refusal z cells len ≡ accepted
+unfolding cells_refusal
+cells-accepts z cells len =
+    cond_each (λ r. accepts r ≡ true → r ≡ accepted) (accepts (sizes_refusal z))
+    (cond_each (λ r. accepts r ≡ true → r ≡ accepted) (bad_cells z.m (grid_size z) cells len) (λ e. absurd (true≢false (sym e))) (λ e. refl))
+    (sizes-accepts z)

@@ -31,13 +31,13 @@ pub fn conclude(file1: &[u8], file2: &[u8], session: Session, scratch: &mut [u64
     let mut run: u64 = 0;
     loop {
         let next = continue_session(file1, file2, current, BUDGET, scratch);
-        let answer = next.answer;
-        let more = answer.run;
         current = next.session;
-        run += more;
-        let mark = current.mark;
-        let Mark::Open = mark else {
-            return Conclusion { answer, run };
+        run += next.answer.run;
+        let Mark::Open = current.mark else {
+            return Conclusion {
+                answer: next.answer,
+                run,
+            };
         };
     }
 }

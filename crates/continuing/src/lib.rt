@@ -2,82 +2,63 @@
 #![tactic(auto)]
 
 ghost use Rattle.std.specs.Prelude.{◌≡◌};
-ghost use Rattle.fields.specs.File.{sizes_of};
-ghost use Rattle.plan.specs.Plan.{Planned};
-ghost use Rattle.sessions.specs.Session.{state_refusal, room_refusal, files_refusal, refused_answer};
+ghost use Rattle.plan.specs.Plan.{plan_of};
+ghost use Rattle.sizes.specs.Answered.{answered};
+ghost use Rattle.sessions.specs.Session.{state_refusal, continue_refusal, refused_answer};
 ghost use Rattle.continuing.specs.Continuing.{Continues};
 
 use advancing::advance;
-use engine::larger;
 use fields::read_sizes;
 use opening::{pair_refusal, same_sizes};
 use plan::{Plan, plan_of};
 use sessions::{Answer, Continued, Kind, Mark, Session};
 use sizes::{INPUTS, Refusal, Sizes, refused_by, within};
-use slices::clear;
 
-// What a session is refused by where the files are accepted and there is room: 101, 102, 103, or nothing. The mark is
-// taken apart here: open needs a position below the grid's size, equal the size itself, differ 1 to the size, and
-// only an open session goes on.
-fn state_refusal(sizes: Sizes, size: u64, session: Session) -> Refusal
-    ensures { result ≡ state_refusal sizes size session }
+// Whether a session goes on where the files are accepted and there is room; else what it is refused by: 101, 102 or 103,
+// in this order. Open needs a position below the grid's size, equal the size itself, differ 1 to the size, and only an open session goes on.
+#[tactic(auto, unfolding(sessions::specs::Session::state_refusal, sessions::specs::Session::misplaced, sessions::specs::Session::is_closed))]
+fn state_refusal(sizes: Sizes, size: u64, session: Session) -> Result<(), Refusal>
+    ensures { result ≡ answered (state_refusal sizes size session) tt }
 {
-    let own = session.sizes;
+    if !same_sizes(session.sizes, sizes) {
+        return Err(refused_by(101));
+    }
     let position = session.position;
-    let mark = session.mark;
-    if !same_sizes(own, sizes) {
-        return refused_by(101);
-    }
-    match mark {
-        Mark::Open => if position < size {
-            refused_by(0)
-        } else {
-            refused_by(102)
-        },
-        Mark::Equal => if position == size {
-            refused_by(103)
-        } else {
-            refused_by(102)
-        },
-        Mark::Differ => if within(1, size, position) {
-            refused_by(103)
-        } else {
-            refused_by(102)
-        },
+    match session.mark {
+        Mark::Open if position < size => Ok(()),
+        Mark::Equal if position == size => Err(refused_by(103)),
+        Mark::Differ if within(1, size, position) => Err(refused_by(103)),
+        _ => Err(refused_by(102)),
     }
 }
 
-// What a continue call is refused by before its session is looked at: 11, file 1, file 2 or 9, or nothing.
-fn files_refusal(file1: &[u8], file2: &[u8], budget: u64) -> Refusal
-    ensures { result ≡ files_refusal file1.now file2.now budget }
-{
-    if budget == 0 {
-        return refused_by(11);
-    }
-    pair_refusal(file1, file2)
-}
-
-// What a continue call with a scratch slice of `room` entries is refused by where its files, which have these sizes,
-// and its budget are accepted: 12, 101, 102, 103, or nothing.
-fn room_refusal(
+// The plan of the files of a continue call with a scratch slice of `room` entries, or what the call is refused by: 11,
+// file 1, file 2, 9, 12, 101, 102 or 103, in this order.
+fn judged(
     file1: &[u8],
     file2: &[u8],
-    sizes: Sizes,
-    plan: Plan,
     session: Session,
+    budget: u64,
     room: usize,
-) -> Refusal
-    requires planned { Planned file1.now file2.now plan }
-    requires sizes_value { sizes ≡ sizes_of file1.now }
-    ensures { result ≡ room_refusal file1.now file2.now session room }
+) -> Result<Plan, Refusal>
+    ensures { result
+        ≡ answered (continue_refusal file1.now file2.now session budget room) (plan_of file1.now file2.now) }
 {
-    if room < larger(plan.n1, plan.n2) {
-        return refused_by(12);
+    if budget == 0 {
+        return Err(refused_by(11));
     }
-    state_refusal(sizes, plan.size, session)
+    pair_refusal(file1, file2)?;
+    let sizes = read_sizes(file1);
+    let plan = plan_of(file1, file2, sizes);
+    if room < plan.n1.max(plan.n2) {
+        return Err(refused_by(12));
+    }
+    state_refusal(sizes, plan.size, session)?;
+    Ok(plan)
 }
 
 // An answer that refuses.
+#[tactic(auto, unfolding(sessions::specs::Session::refused_answer))]
 fn refused_answer(refusal: Refusal) -> Answer
     ensures { result ≡ refused_answer refusal }
 {
@@ -85,7 +66,7 @@ fn refused_answer(refusal: Refusal) -> Answer
         refusal,
         kind: Kind::Refused,
         run: 0,
-        vector: [0u64; INPUTS],
+        vector: [0; INPUTS],
         output1: 0,
         output2: 0,
     }
@@ -107,21 +88,15 @@ pub fn continue_session(
     ensures { Continues file1.now file2.now session budget scratch.old result
         scratch.new }
 {
-    let refusal = files_refusal(file1, file2, budget);
-    let number = refusal.number;
-    if number != 0 {
-        let answer = refused_answer(refusal);
-        return Continued { session, answer };
+    match judged(file1, file2, session, budget, scratch.len()) {
+        Ok(plan) => {
+            let result = advance(file1, file2, plan, session, budget, scratch);
+            scratch[..plan.n1.max(plan.n2)].fill(0);
+            result
+        }
+        Err(refusal) => Continued {
+            session,
+            answer: refused_answer(refusal),
+        },
     }
-    let sizes = read_sizes(file1);
-    let plan = plan_of(file1, file2, sizes);
-    let later = room_refusal(file1, file2, sizes, plan, session, scratch.len());
-    let second = later.number;
-    if second != 0 {
-        let answer = refused_answer(later);
-        return Continued { session, answer };
-    }
-    let result = advance(file1, file2, plan, session, budget, scratch);
-    clear(scratch, larger(plan.n1, plan.n2));
-    result
 }

@@ -1,4 +1,5 @@
-// Which steps of an accepted file depend on one input.
+// Which steps of an accepted file depend on one input. The flags are words, since they stand in the scratch slice that
+// the caller lends.
 #![tactic(auto)]
 
 ghost use Rattle.std.specs.Prelude.{◌≤◌, ◌<◌, length};
@@ -13,10 +14,7 @@ fn either_flagged(flags: &[u64], l: usize, r: usize) -> bool
     requires { (l < length flags.now) × (r < length flags.now) }
     ensures { Unflagged flags.now l r result }
 {
-    if flags[l] != 0 {
-        return true;
-    }
-    flags[r] != 0
+    flags[l] != 0 || flags[r] != 0
 }
 
 // Whether step k may depend on input j: it is that input, or has an operand that may. The flags of the steps before
@@ -26,13 +24,12 @@ fn may_depend(file: &[u8], n: usize, j: usize, flags: &[u64], k: usize) -> bool
     requires k_lt_n { (k < n) × (k ≤ length flags.now) }
     ensures { MayDepend file.now j flags.now k result }
 {
-    let step = step_at(file, n, k);
-    match step {
+    match step_at(file, n, k) {
         Step::Input(i) => i == j,
         Step::Constant(_) => false,
-        Step::Add(l, r) => either_flagged(flags, l, r),
-        Step::Subtract(l, r) => either_flagged(flags, l, r),
-        Step::Multiply(l, r) => either_flagged(flags, l, r),
+        Step::Add(l, r) | Step::Subtract(l, r) | Step::Multiply(l, r) => {
+            either_flagged(flags, l, r)
+        }
     }
 }
 
@@ -50,8 +47,7 @@ pub fn list_dependent(
     ensures { DependentListed file.now n j flags.old flags.new list.new result }
 {
     let mut count = 0;
-    let mut k = 0;
-    while k < n {
+    for k in 0..n {
         if may_depend(file, n, j, flags, k) {
             flags[k] = 1;
             list[count] = k;
@@ -59,7 +55,6 @@ pub fn list_dependent(
         } else {
             flags[k] = 0;
         }
-        k += 1;
     }
     count
 }

@@ -2,11 +2,12 @@
 #![tactic(auto)]
 
 ghost use Rattle.std.specs.Prelude.{◌≡◌, ◌+◌, ◌*◌, ◌≤◌, max, length};
-ghost use Rattle.lanes.specs.Lanes.{Width};
 ghost use Rattle.plan.specs.Comparison.{Searched};
 ghost use Rattle.plan.specs.Plan.{Planned};
 ghost use Rattle.walk.specs.Walk.{Within};
-ghost use Rattle.engine.specs.Lengths.{short, middle, long_rows};
+ghost use Rattle.engine.specs.Lengths.{Enough, long_rows};
+ghost use Rattle.file.specs.Check.{max_steps};
+ghost use Rattle.lanes.specs.Lanes.{Width};
 
 use batches::{AXIS, Shape};
 use fields::STEPS;
@@ -21,97 +22,59 @@ const SHORT: usize = 64;
 
 const MIDDLE: usize = 256;
 
-// The words of the rows of long files: all steps in few lanes.
+// The words of the rows of each: all steps, of long files in few lanes.
+const SHORT_ROWS: usize = LANES * SHORT;
+
+const MIDDLE_ROWS: usize = LANES * MIDDLE;
+
 const LONG_ROWS: usize = FEW_LANES * STEPS;
 
-// The first place of the span at which the outputs differ, or its end where there is none, in LANES lanes, for short
-// files, which have rows of their own each. The rows are set up here, where lanes are really run.
-fn in_short_lanes(file1: &[u8], file2: &[u8], plan: Plan, span: Span, scratch: &mut [u64]) -> u64
+// The words of the outputs of a line in all lanes.
+const OUTPUTS: usize = LANES * AXIS;
+
+// The first place of the span at which the outputs differ, or its end where there is none, in lanes, for files whose
+// steps have room in the ROWS words of the rows and in lists of LIST entries. Files that are run in turn share their
+// rows, and others have OTHER words of their own each. The rows are set up here, where lanes are really run.
+fn in_lanes<const ROWS: usize, const OTHER: usize, const LIST: usize>(
+    file1: &[u8],
+    file2: &[u8],
+    plan: Plan,
+    shape: Shape,
+    span: Span,
+    scratch: &mut [u64],
+) -> u64
     requires within { Within file1.now file2.now plan span scratch.old }
-    requires n1_le_short { (plan.n1 ≤ short) × (plan.n2 ≤ short) }
+    requires enough { Enough shape plan ROWS OTHER LIST }
+    requires small { (ROWS ≤ long_rows) × (OTHER ≤ long_rows) × (LIST ≤ long_rows) }
     ensures { Searched file1.now file2.now (max plan.n1 plan.n2) span.from span.end
         scratch.old result scratch.new }
 {
-    let mut rows = [0u64; LANES * SHORT];
-    let mut other = [0u64; LANES * SHORT];
-    let mut list1 = [0usize; SHORT];
-    let mut list2 = [0usize; SHORT];
-    let shape = Shape {
-        w: LANES,
-        turn: false,
-    };
+    let mut rows = [0u64; ROWS];
+    let mut other = [0u64; OTHER];
+    let mut list1 = [0usize; LIST];
+    let mut list2 = [0usize; LIST];
     by_lines(
         file1, file2, plan, shape, span, &mut rows, &mut other, &mut list1, &mut list2, scratch,
     )
 }
 
-// The same for files of middle length, which are run in turn in the same rows.
-fn in_middle_lanes(file1: &[u8], file2: &[u8], plan: Plan, span: Span, scratch: &mut [u64]) -> u64
-    requires within { Within file1.now file2.now plan span scratch.old }
-    requires n1_le_middle { (plan.n1 ≤ middle) × (plan.n2 ≤ middle) }
-    ensures { Searched file1.now file2.now (max plan.n1 plan.n2) span.from span.end
-        scratch.old result scratch.new }
+// The lanes for long files of at most n steps: all where the rows have room for these, and few otherwise.
+fn long_lanes(n: usize) -> usize
+    requires { n ≤ max_steps }
+    ensures { Width result × (result * n ≤ long_rows) }
 {
-    let mut rows = [0u64; LANES * MIDDLE];
-    let mut outputs = [0u64; LANES * AXIS];
-    let mut list1 = [0usize; MIDDLE];
-    let mut list2 = [0usize; MIDDLE];
-    let shape = Shape {
-        w: LANES,
-        turn: true,
-    };
-    by_lines(
-        file1,
-        file2,
-        plan,
-        shape,
-        span,
-        &mut rows,
-        &mut outputs,
-        &mut list1,
-        &mut list2,
-        scratch,
-    )
+    if LANES * n <= LONG_ROWS {
+        LANES
+    } else {
+        FEW_LANES
+    }
 }
 
-// The same in w lanes, LANES or FEW_LANES, for files whose steps have room in the rows, run in turn too.
-fn in_long_lanes(
-    file1: &[u8],
-    file2: &[u8],
-    plan: Plan,
-    span: Span,
-    scratch: &mut [u64],
-    w: usize,
-) -> u64
-    requires within { Within file1.now file2.now plan span scratch.old }
-    requires width { Width w × (w * plan.n1 ≤ long_rows) × (w * plan.n2 ≤ long_rows) }
-    ensures { Searched file1.now file2.now (max plan.n1 plan.n2) span.from span.end
-        scratch.old result scratch.new }
-{
-    let mut rows = [0u64; LONG_ROWS];
-    let mut outputs = [0u64; LANES * AXIS];
-    let mut list1 = [0usize; STEPS];
-    let mut list2 = [0usize; STEPS];
-    let shape = Shape { w, turn: true };
-    by_lines(
-        file1,
-        file2,
-        plan,
-        shape,
-        span,
-        &mut rows,
-        &mut outputs,
-        &mut list1,
-        &mut list2,
-        scratch,
-    )
-}
-
-// The larger of two counts.
+// The larger of two counts. A function of its own, since its edit stands on it.
 pub fn larger(a: usize, b: usize) -> usize
     ensures { result ≡ max a b }
 {
-    if a < b { b } else { a }
+    a.max(b)
 }
 
 // The first place among the `count` from `from` on at which the outputs of two comparable files differ, or the end of
@@ -142,13 +105,22 @@ pub fn first_difference(
     }
     let n = larger(plan.n1, plan.n2);
     if n <= SHORT {
-        return in_short_lanes(file1, file2, plan, span, scratch);
+        let shape = Shape {
+            w: LANES,
+            turn: false,
+        };
+        return in_lanes::<SHORT_ROWS, SHORT_ROWS, SHORT>(file1, file2, plan, shape, span, scratch);
     }
     if n <= MIDDLE {
-        return in_middle_lanes(file1, file2, plan, span, scratch);
+        let shape = Shape {
+            w: LANES,
+            turn: true,
+        };
+        return in_lanes::<MIDDLE_ROWS, OUTPUTS, MIDDLE>(file1, file2, plan, shape, span, scratch);
     }
-    if LANES * n <= LONG_ROWS {
-        return in_long_lanes(file1, file2, plan, span, scratch, LANES);
-    }
-    in_long_lanes(file1, file2, plan, span, scratch, FEW_LANES)
+    let shape = Shape {
+        w: long_lanes(n),
+        turn: true,
+    };
+    in_lanes::<LONG_ROWS, OUTPUTS, STEPS>(file1, file2, plan, shape, span, scratch)
 }

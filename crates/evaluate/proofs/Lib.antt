@@ -1,4 +1,5 @@
 pub mod Answers
+pub mod Operands
 pub mod Order
 pub mod Taken
 pub mod Words

@@ -4,7 +4,8 @@
 --   short_scratch n len    12. the scratch slice has fewer entries than n, the count of steps
 --   bad_vector z ws        14. there are not exactly d words, or some word gives no value of its input
 --   refusal_at s ws len    what evaluating at the words ws answers first: the file's refusal, 12, 14, or acceptance
---   evaluated_at s ws len  the whole answer: the refusal and the output at the vector that the words give, which is 0 in a refusal
+--   Evaluated              what is told of a call: its refusal and an output, which is 0 in a refusal
+--   evaluated_at s ws len  what is told of the call: the refusal and the output at the vector that the words give, which is 0 in a refusal
 --   evaluated_scratch      the scratch slice afterwards: the first N entries zero where the call is accepted, all untouched where it is refused
 use Rattle.std.specs.Prelude.{ℕ, Bool, cond, not, ◌&&◌, List, length, ℤ, ◌==◌, nat_lt, slice_index}
 use Rattle.file.specs.Check.{file_number, refusal_of}
@@ -17,7 +18,6 @@ use Rattle.sizes.specs.declared.Refusal.{Refusal}
 use Rattle.sizes.specs.declared.Sizes.{Sizes}
 use Rattle.slices.specs.Slices.{cleared}
 use Rattle.datapath.specs.Steps.{output}
-use Rattle.evaluate.specs.declared.Evaluated.{Evaluated}
 
 unfoldable pub output_of : List ℕ → List ℤ → ℕ
 output_of s x = output (sizes_of s).m (steps_of s) x
@@ -41,6 +41,10 @@ refusal_at s ws len =
     (cond (short_scratch (step_count s) len) (refused_by 12)
     (cond (bad_vector (sizes_of s) ws) (refused_by 14) accepted))
     (refusal_of 1 s)
+
+pub record Evaluated : Type 0 where
+  pub refusal : Refusal
+  pub output : ℕ
 
 unfoldable pub evaluated_at : List ℕ → List ℕ → ℕ → Evaluated
 evaluated_at s ws len =

@@ -11,17 +11,18 @@
 --       output    r is the output of the file at the words
 --       kept      past the first n entries the scratch slice is as before
 --   Evaluates s ws before r after     what evaluating promises, for refused input too:
---       answer    the refusal and the output
+--       answer    the refusal, or the output at the vector that the words give
 --       scratch   the scratch slice afterwards
-use Rattle.std.specs.Prelude.{◌≡◌, ℕ, ◌≤◌, List, ◌++◌, map, length, take, drop, ℤ}
+use Rattle.std.specs.Prelude.{◌≡◌, ℕ, ◌≤◌, List, ◌++◌, map, length, take, drop, ℤ, Result}
 use Rattle.fields.specs.File.{sizes_of, step_count}
 use Rattle.fields.specs.Steps.{step_at, steps_of}
 use Rattle.file.specs.Accepted.{Accepted}
 use Rattle.slices.specs.Slices.{KeptPast}
 use Rattle.datapath.specs.Steps.{step_value, values}
 use Rattle.words.specs.Words.{word, plain}
-use Rattle.evaluate.specs.Evaluate.{output_of, evaluated_at, evaluated_scratch}
-use Rattle.evaluate.specs.declared.Evaluated.{Evaluated}
+use Rattle.sizes.specs.Answered.{answered}
+use Rattle.sizes.specs.declared.Refusal.{Refusal}
+use Rattle.evaluate.specs.Evaluate.{output_of, vector_of, refusal_at, evaluated_scratch}
 
 abbrev pub word_output : List ℕ → List ℕ → ℕ
 word_output s ws = output_of s (plain ws)
@@ -50,6 +51,6 @@ pub record OutputAt (s : List ℕ) (n : ℕ) (ws before : List ℕ) (r : ℕ) (a
   pub output : r ≡ word_output s ws
   pub kept : KeptPast n before after
 
-pub record Evaluates (s ws before : List ℕ) (r : Evaluated) (after : List ℕ) : Type 0 where
-  pub answer : r ≡ evaluated_at s ws (length before)
+pub record Evaluates (s ws before : List ℕ) (r : Result ℕ Refusal) (after : List ℕ) : Type 0 where
+  pub answer : r ≡ answered (refusal_at s ws (length before)) (output_of s (vector_of (sizes_of s) ws))
   pub scratch : after ≡ evaluated_scratch s ws before

@@ -18,14 +18,6 @@ pub widths_many : (d : ℕ) → short_inputs < d → width_bytes d ≡ max_input
 unfolding width_bytes
 widths_many d l = rw (lt-leb d short_inputs l)
 
--- a head that is not short is long
-pub widths-long : (d : ℕ) → ¬ (width_bytes d ≡ short_inputs) → width_bytes d ≡ max_inputs
-widths-long d n =
-    elim (dec_lt short_inputs d) [
-      | yes l ↦ widths_many d l
-      | no m ↦ absurd (n (widths-few d (omega arith)))
-    ]
-
 pub head_lengths : HeadLengths
 head_lengths = record { short = λ d l. ap (λ n. widths_from + n) (widths-few d l); long = λ d l. ap (λ n. widths_from + n) (widths_many d l) }
 

@@ -39,32 +39,37 @@ pub const LONG_HEAD: usize = WIDTHS + INPUTS;
 pub const STEPS: usize = 1024;
 
 // m alone, the output word length.
+#[tactic(auto, unfolding(crate::specs::File::sizes_of))]
 pub fn output_length(file: &[u8]) -> u64
     requires { short_head ≤ length file.now }
     ensures { result ≡ (sizes_of file.now).m }
 {
-    file[0] as u64
+    u64::from(file[0])
 }
 
 // d alone, the count of inputs.
+#[tactic(auto, unfolding(crate::specs::File::sizes_of))]
 pub fn input_count(file: &[u8]) -> u64
     requires { short_head ≤ length file.now }
     ensures { result ≡ (sizes_of file.now).d }
 {
-    file[1] as u64
+    u64::from(file[1])
 }
 
 // The width bytes of a file with d inputs.
+#[tactic(auto, unfolding(crate::specs::File::width_bytes))]
 fn width_bytes(d: u64) -> usize
     ensures { result ≡ width_bytes d }
 {
     if d <= SHORT_INPUTS as u64 {
-        return SHORT_INPUTS;
+        SHORT_INPUTS
+    } else {
+        INPUTS
     }
-    INPUTS
 }
 
 // The bytes of the file's head, before the operation bytes.
+#[tactic(auto, unfolding(crate::specs::File::width_bytes))]
 pub fn head_of(file: &[u8]) -> usize
     requires { short_head ≤ length file.now }
     ensures { result ≡ head_of file.now }
@@ -72,46 +77,44 @@ pub fn head_of(file: &[u8]) -> usize
     WIDTHS + width_bytes(input_count(file))
 }
 
-// The first `count` width bytes, and 0 after them. It is called with constants, so that it is compiled for each.
-fn read_widths(file: &[u8], count: usize) -> [u8; INPUTS]
-    requires { (count ≤ max_inputs) × (widths_from + count ≤ length file.now) }
-    ensures { result ≡ padded (take count (drop widths_from file.now)) }
+// The first N width bytes, and 0 after them. N is a constant, so that the copy is compiled for each.
+fn read_widths<const N: usize>(file: &[u8]) -> [u8; INPUTS]
+    requires { (N ≤ max_inputs) × (widths_from + N ≤ length file.now) }
+    ensures { result ≡ padded (take N (drop widths_from file.now)) }
 {
     let mut widths = [0u8; INPUTS];
-    let mut i = 0;
-    while i < count {
-        widths[i] = file[WIDTHS + i];
-        i += 1;
-    }
+    widths[..N].copy_from_slice(&file[WIDTHS..WIDTHS + N]);
     widths
 }
 
 // The width bytes, with 0 for those that the head does not have.
+#[tactic(auto, unfolding(crate::specs::File::sizes_of, crate::specs::File::width_bytes))]
 fn widths_of(file: &[u8]) -> [u8; INPUTS]
     requires { head_of file.now ≤ length file.now }
     ensures { result ≡ (sizes_of file.now).widths }
 {
-    let count = width_bytes(input_count(file));
-    if count == SHORT_INPUTS {
-        return read_widths(file, SHORT_INPUTS);
+    if head_of(file) == SHORT_HEAD {
+        read_widths::<SHORT_INPUTS>(file)
+    } else {
+        read_widths::<INPUTS>(file)
     }
-    read_widths(file, INPUTS)
 }
 
 // m, d and the width bytes.
+#[tactic(auto, unfolding(crate::specs::File::sizes_of, crate::specs::File::width_bytes))]
 pub fn read_sizes(file: &[u8]) -> Sizes
     requires { head_of file.now ≤ length file.now }
     ensures { result ≡ sizes_of file.now }
 {
-    let widths = widths_of(file);
     Sizes {
-        m: output_length(file) as u8,
+        m: file[0],
         d: file[1],
-        widths,
+        widths: widths_of(file),
     }
 }
 
 // N, the count of steps.
+#[tactic(auto, unfolding(crate::specs::File::step_count))]
 pub fn step_count(file: &[u8]) -> usize
     requires { short_head ≤ length file.now }
     ensures { (result ≡ step_count file.now) × (result < 2 ^ 16) }
@@ -121,6 +124,7 @@ pub fn step_count(file: &[u8]) -> usize
 
 // The operation byte of step k, given N. It is counted from the end of the file, where the steps stand whatever the
 // head: what the engine does for each step reads nothing of the head.
+#[tactic(auto, unfolding(crate::specs::File::operation))]
 pub fn operation(file: &[u8], n: usize, k: usize) -> u8
     requires { HasStep file.now n k }
     ensures { (result ≡ operation file.now k) × (result < 2 ^ 8) }
@@ -129,6 +133,7 @@ pub fn operation(file: &[u8], n: usize, k: usize) -> u8
 }
 
 // The argument of step k, given N, counted from the end of the file too.
+#[tactic(auto, unfolding(crate::specs::File::argument))]
 pub fn argument(file: &[u8], n: usize, k: usize) -> u64
     requires { HasStep file.now n k }
     ensures { (result ≡ argument file.now k) × (result < 2 ^ 64) }
@@ -152,25 +157,17 @@ pub fn right_operand(a: u64) -> usize
 
 // Step k, given N, decoded from its operation byte and its argument. An operation byte past 5, which no accepted file
 // has, reads as 5.
+#[tactic(auto, unfolding(crate::specs::Steps::step_at, crate::specs::Steps::decoded))]
 pub fn step_at(file: &[u8], n: usize, k: usize) -> Step
     requires { HasStep file.now n k }
     ensures { result ≡ step_at file.now k }
 {
-    let op = operation(file, n, k);
     let a = argument(file, n, k);
-    if op == 1 {
-        return Step::Input(a as usize);
+    match operation(file, n, k) {
+        1 => Step::Input(a as usize),
+        2 => Step::Constant(a),
+        3 => Step::Add(left_operand(a), right_operand(a)),
+        4 => Step::Subtract(left_operand(a), right_operand(a)),
+        _ => Step::Multiply(left_operand(a), right_operand(a)),
     }
-    if op == 2 {
-        return Step::Constant(a);
-    }
-    let left = left_operand(a);
-    let right = right_operand(a);
-    if op == 3 {
-        return Step::Add(left, right);
-    }
-    if op == 4 {
-        return Step::Subtract(left, right);
-    }
-    Step::Multiply(left, right)
 }

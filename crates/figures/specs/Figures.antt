@@ -1,5 +1,7 @@
 -- The figures of an output word length m (document 02, T-08).
---   figures_of m      what is answered about m: L(m) and its quotients by 2, 4, 8, 16, 32 and 64; or the refusal by 2, all else then 0
+--   Figures          what is told of m: a refusal, the bound and the quotients
+--   given f          what of the figures f an accepted call gives
+--   figures_of m     what is told of m: L(m) and its quotients by 2, 4, 8, 16, 32 and 64; or the refusal by 2, all else then 0
 --   FiguresExactly   which of the two it is, with no test in it, and what is answered then. Proved in proofs/Exactly:
 --     inside         of an m that 2 accepts the figures are told
 --     outside        any other is refused
@@ -13,11 +15,20 @@
 --     file, step     that shows no file and no step
 --     none           the bound is 0
 --     zeros          and so are the six quotients
-use Rattle.std.specs.Prelude.{cond, ◌≡◌, ℕ, replicate}
+use Rattle.std.specs.Prelude.{cond, ◌≡◌, ℕ, List, replicate}
 use Rattle.bound.specs.Bound.{IsBound, bound}
 use Rattle.bound.specs.Quotients.{halvings}
 use Rattle.sizes.specs.Sizes.{output_length, OutputLength, refused_by, accepted}
-use Rattle.figures.specs.declared.Figures.{Figures}
+use Rattle.sizes.specs.declared.Refusal.{Refusal}
+use Rattle.figures.specs.declared.Figures.{Figures as Given}
+
+pub record Figures : Type 0 where
+  pub refusal : Refusal
+  pub bound : ℕ
+  pub quotients : List ℕ
+
+abbrev pub given : Figures → Given
+given f = record { bound = f.bound; quotients = f.quotients }
 
 -- L(m) and its quotients
 abbrev pub bound_answered : ℕ → Figures

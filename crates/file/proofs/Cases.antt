@@ -1,25 +1,59 @@
 -- One law for each answer of a judging function: from the tests that led there, what the definition gives. Each by rewriting with the
 -- tests. Assumes nothing.
-use mathlib.Core.Bool.{Bool, true, false, not}
+use mathlib.Core.Bool.{true, false, not, cond}
 use mathlib.Core.List.{List}
 use mathlib.Core.Logic.{⊎_elim}
-use mathlib.Core.Path.{◌≡◌, sym, ap, ◌∙◌}
+use mathlib.Core.Path.{◌≡◌, refl, sym, ap, ◌∙◌}
 use Prim.Native.Nat.{ℕ, ◌+◌, ◌*◌, ◌%◌, ◌^◌, ◌≤◌, ◌<◌}
 use native.Mathlib.Nat.{mod-lt, mod-eq_of_lt}
 use native.Mathlib.Omega.{arith}
 use lib.Dec.{ltb, eqb}
 use lib.ListN.{length}
-use borrow.Author.Tests.{lt-ltb, le-ltb, eq-eqb, ne_eqb, ltb-true, ltb-false}
+use lib.Pow.{pow_pos}
+use borrow.Author.Tests.{lt-ltb, le-ltb, eq-eqb, ne_eqb, ltb-true, ltb-false, eqb-true, eqb-false}
+use Rattle.std.specs.Prelude.{Some, None}
 use Rattle.ranges.proofs.Search.{true_or_false}
 use Rattle.sizes.specs.declared.Sizes.{Sizes}
-use Rattle.sizes.specs.Sizes.{within, bad_output, bad_inputs, bad_widths}
-use Rattle.fields.specs.File.{short_head, sizes_of, head_of, step_count, operation, argument, left_operand, right_operand}
+use Rattle.sizes.specs.Sizes.{within, output_length, input_count, bad_output, bad_inputs, bad_widths}
+use Rattle.fields.specs.File.{short_head, sizes_of, head_of, step_count, operation, argument}
 use Rattle.fields.proofs.Heads.{head-short}
-use Rattle.file.specs.Check.{max_steps, too_short, short_of_head, bad_count, bad_length, bad_operation, upper_half, operands_rule, argument_rule, bad_argument, step_fault, faulty_at, head_fault}
+use Rattle.file.specs.Check.{fault, max_steps, too_short, short_of_head, bad_count, bad_length, bad_operation, operands_rule, argument_rule, bad_argument, step_fault, faulty_at, head_fault}
 
--- r is the outcome of a test f at x, and x is y: what r is, f is at y
-pub told : {A : Type 0} (f : A → Bool) {x y : A} {r b : Bool} → r ≡ f x → x ≡ y → r ≡ b → f y ≡ b
-told f e q t = ap f (sym q) ∙ sym e ∙ t
+-- the number of a condition that holds, read back from its option
+module _ (n : ℕ) where
+  fault-zero : eqb n 0 ≡ true → fault n ≡ None
+  fault-zero t = rw t
+
+  fault_not : eqb n 0 ≡ false → fault n ≡ Some n
+  fault_not f = rw f
+
+  pub fault-some : (m : ℕ) → Some m ≡ fault n → (m ≡ n) × (n ≡ 0 → ⊥)
+  fault-some m e =
+      ⊎_elim
+      (λ (t : eqb n 0 ≡ true). cc (fault-zero t))
+      (λ (f : eqb n 0 ≡ false). (cc (fault_not f), eqb-false n 0 f))
+      (true_or_false (eqb n 0))
+
+  pub fault-none : None ≡ fault n → n ≡ 0
+  fault-none e =
+      ⊎_elim
+      (λ (t : eqb n 0 ≡ true). eqb-true n 0 t)
+      (λ (f : eqb n 0 ≡ false). cc (fault_not f))
+      (true_or_false (eqb n 0))
+
+-- the definition with the tests that it names opened
+pub head_opened :
+    (s : List ℕ) →
+    head_fault s ≡
+    cond (ltb (length s) short_head) 1
+    (cond (not (output_length (sizes_of s).m)) 2
+    (cond (not (input_count (sizes_of s).d)) 3
+    (cond (ltb (length s) (head_of s)) 1
+    (cond (not (within 1 max_steps (step_count s))) 4
+    (cond (bad_widths (sizes_of s)) 5
+    (cond (not (eqb (length s) (head_of s + 9 * step_count s))) 6 0))))))
+unfolding head_fault too_short short_of_head bad_output bad_inputs bad_count bad_length
+head_opened s = refl
 
 module _ (s : List ℕ) where
   pub head_1 : length s < short_head → 1 ≡ head_fault s
@@ -81,21 +115,6 @@ module _ (s : List ℕ) (k : ℕ) where
   unfolding faulty_at
   faultless e = ap not (eq-eqb _ _ e)
 
--- the rule of two operands, part by part
-module _ (k a : ℕ) where
-  pub operands-left : k ≤ left_operand a → false ≡ operands_rule k a
-  unfolding operands_rule
-  operands-left l = simp (le-ltb (left_operand a) k l)
-
-  module _ (left : left_operand a < k) where
-    pub operands-right : k ≤ right_operand a → false ≡ operands_rule k a
-    unfolding operands_rule
-    operands-right l = simp (lt-ltb (left_operand a) k left, le-ltb (right_operand a) k l)
-
-    pub operands-upper : right_operand a < k → eqb (upper_half a) 0 ≡ operands_rule k a
-    unfolding operands_rule
-    operands-upper l = simp (lt-ltb (left_operand a) k left, lt-ltb (right_operand a) k l)
-
 -- the rule of an argument, by its operation
 module _ (z : Sizes) (k o a : ℕ) where
   pub rule-input : o ≡ 1 → argument_rule z k o a ≡ ltb a z.d
@@ -110,17 +129,6 @@ module _ (z : Sizes) (k o a : ℕ) where
   unfolding argument_rule
   rule-operands n1 n2 = simp (ne_eqb o 1 n1, ne_eqb o 2 n2)
 
--- told, of the rule of step k's argument
-pub rule_told :
-    (s : List ℕ) (k : ℕ) {z : Sizes} {o a : ℕ} {r b : Bool}
-    → r ≡ argument_rule z k o a
-    → z ≡ sizes_of s
-    → o ≡ operation s k
-    → a ≡ argument s k
-    → r ≡ b
-    → argument_rule (sizes_of s) k (operation s k) (argument s k) ≡ b
-rule_told s k e ez eo ea t = cc
-
 -- a number is its own remainder just where it is below the modulus
 pub own-remainder : (a M : ℕ) → 0 < M → eqb (a % M) a ≡ ltb a M
 own-remainder a M pos = ⊎_elim below above (true_or_false (ltb a M))
@@ -130,3 +138,7 @@ own-remainder a M pos = ⊎_elim below above (true_or_false (ltb a M))
 
     above : ltb a M ≡ false → eqb (a % M) a ≡ ltb a M
     above e = ne_eqb _ _ (λ (q : a % M ≡ a). omega (arith, mod-lt a pos, ltb-false a M e)) ∙ sym e
+
+-- and so it is kept by a cut to m bits just where it has no more
+pub kept_by_cut : (a m : ℕ) → eqb (a % 2 ^ m) a ≡ ltb a (2 ^ m)
+kept_by_cut a m = own-remainder a (2 ^ m) (pow_pos m)

@@ -1,5 +1,6 @@
 pub mod Accepted
 pub mod Cases
+pub mod Checked
 pub mod Long
 pub mod Number
 pub mod Order

@@ -10,7 +10,7 @@ use lib.Dec.{ltb, eqb, lit≤}
 use lib.ListN.{length}
 use borrow.Author.Tests.{lt-ltb, le-ltb, lt-leb, le-leb, eq-eqb, ne_eqb, ltb-true, ltb-false, eqb-true, eqb-false, not-true, not-false}
 use Rattle.ranges.proofs.Search.{true_or_false, cond_each, first_found}
-use Rattle.sizes.specs.Sizes.{within, bad_output, bad_inputs, bad_widths}
+use Rattle.sizes.specs.Sizes.{within, bad_output, bad_inputs, bad_widths, accepts, accepted}
 use Rattle.fields.specs.File.{sizes_of, head_of, step_count, operations_of}
 use Rattle.file.specs.Check.{max_steps, too_short, short_of_head, bad_count, bad_length, bad_operation, bad_argument, step_fault, faulty_at, faulty_step, head_fault, file_number, shown_step, refusal_of, stretch_of}
 
@@ -92,7 +92,7 @@ module _ (s : List ℕ) where
     unfolding file_number
     number-faulty l = simp (eq-eqb _ _ head, lt-ltb _ _ l)
 
-    number-sound : step_count s ≤ faulty_step s → file_number s ≡ 0
+    pub number-sound : step_count s ≤ faulty_step s → file_number s ≡ 0
     unfolding file_number
     number-sound l = simp (eq-eqb _ _ head, le-ltb _ _ l)
 
@@ -134,6 +134,11 @@ module _ (s : List ℕ) where
       zero_or_not (file_number s)
       (λ (e : file_number s ≡ 0). simp (eq-eqb _ _ e) (sym e))
       (λ (n : file_number s ≡ 0 → ⊥). simp (ne_eqb _ _ n))
+
+  -- an accepted file shows nothing
+  pub refusal-accepts : (w : ℕ) → accepts (refusal_of w s) ≡ true → refusal_of w s ≡ accepted
+  unfolding refusal_of
+  refusal-accepts w e = rw (sym (refusal-number w) ∙ eqb-true _ 0 e)
 
   pub stretch_accepted : file_number s ≡ 0 → stretch_of s ≡ operations_of s
   unfolding stretch_of

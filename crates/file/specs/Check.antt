@@ -7,13 +7,14 @@
 --   bad_length         6. the length is not that of the head and 9N
 --   bad_operation      7. the operation byte of step k is not 1 to 5
 --   bad_argument       8. the argument of step k breaks its rule
+--   fault n            the number n of a condition that holds, as an option: none at 0
 --   step_fault s k     7 or 8, the first that holds at step k, or 0
 --   faulty_at s k      7 or 8 holds at step k
 --   faulty_step s      the first step at which 7 or 8 holds, or N
 --   file_number s      the first of 1 to 8 that holds, in document 01's order, or 0
 --   refusal_of w s     what checking s as file w answers: the number, the file and the step
 --   stretch_of s       the operation bytes that are handed out: of a refused file, none
-use Rattle.std.specs.Prelude.{Bool, not, cond, ◌&&◌, List, [], ℕ, ◌+◌, ◌*◌, ◌/◌, ◌^◌, leb, ltb, eqb, length}
+use Rattle.std.specs.Prelude.{Bool, not, cond, ◌&&◌, List, [], Option, Some, None, ℕ, ◌+◌, ◌*◌, ◌/◌, ◌^◌, leb, ltb, eqb, length}
 use Rattle.ranges.specs.Search.{first}
 use Rattle.sizes.specs.declared.Refusal.{Refusal}
 use Rattle.sizes.specs.declared.Sizes.{Sizes}
@@ -55,6 +56,9 @@ argument_rule z k o a =
 
 unfoldable pub bad_argument : List ℕ → ℕ → Bool
 bad_argument s k = not (argument_rule (sizes_of s) k (operation s k) (argument s k))
+
+abbrev pub fault : ℕ → Option ℕ
+fault n = cond (eqb n 0) None (Some n)
 
 unfoldable pub step_fault : List ℕ → ℕ → ℕ
 step_fault s k = cond (bad_operation s k) 7 (cond (bad_argument s k) 8 0)

@@ -12,8 +12,7 @@
 --   scratch   the scratch slice: where the call is accepted its first N entries are zero, and all else is untouched
 -- Where the call returns 0, every slice is as at entry.
 use Rattle.std.specs.Prelude.{cond, List, [], ◌∷◌, ◌++◌, ◌≡◌, ℕ, ◌+◌, eqb, length}
-use Rattle.evaluate.specs.Evaluate.{evaluated_at, evaluated_scratch}
-use Rattle.evaluate.specs.declared.Evaluated.{Evaluated}
+use Rattle.evaluate.specs.Evaluate.{Evaluated, evaluated_at, evaluated_scratch}
 use Rattle.file.specs.Check.{file_number, refusal_of}
 use Rattle.fields.specs.File.{head_of, step_count}
 use Rattle.layouts.specs.AnswerWords.{refusal_words}

@@ -27,8 +27,7 @@ pub fn check_call(file: &[u8], out: &mut [u64]) -> u32
     if out.len() != REFUSAL_LENGTH {
         return 0;
     }
-    let r = check(file);
-    put_refusal(out, r);
+    put_refusal(out, check(file));
     1
 }
 
@@ -56,8 +55,9 @@ pub fn evaluate_call(file: &[u8], vector: &[u64], scratch: &mut [u64], out: &mut
     if out.len() != EVALUATE_LENGTH {
         return 0;
     }
-    let e = evaluate(file, vector, scratch);
-    let r = e.refusal;
-    copy_front(&[r.number, r.file, r.step, e.output], out, EVALUATE_LENGTH);
+    match evaluate(file, vector, scratch) {
+        Ok(output) => copy_front(&[0, 0, 0, output], out, EVALUATE_LENGTH),
+        Err(r) => copy_front(&[r.number, r.file, r.step, 0], out, EVALUATE_LENGTH),
+    }
     1
 }

@@ -1,17 +1,18 @@
 -- The cases of what making a table answers and leaves: each refusal under the tests that led to it, what an answer of number 0 tells, and the
 -- written slices of accepted and refused calls. By the tests of the definitions.
+use mathlib.Core.Bool.{true}
 use mathlib.Core.Path.{◌≡◌, sym, ◌∙◌, ap}
 use mathlib.Core.List.{List, ◌++◌}
 use Prim.Native.Nat.{ℕ, ◌<◌, ◌≤◌}
 use native.Mathlib.Decide.{dec_lt, ℕ_discrete}
 use native.Mathlib.Omega.{arith}
 use lib.ListN.{length, drop}
-use borrow.Author.Tests.{lt-ltb, le-ltb, eq-eqb, ne_eqb}
+use borrow.Author.Tests.{lt-ltb, le-ltb, eq-eqb, ne_eqb, eqb-true}
 use Rattle.file.specs.Check.{file_number, refusal_of}
 use Rattle.fields.specs.File.{sizes_of, step_count}
 use Rattle.file.proofs.Number.{refusal-number}
 use Rattle.grid.specs.Grid.{grid_size}
-use Rattle.sizes.specs.Sizes.{refused_by, accepted}
+use Rattle.sizes.specs.Sizes.{refused_by, accepted, accepts}
 use Rattle.sizes.specs.declared.Refusal.{Refusal}
 use Rattle.slices.specs.Slices.{cleared}
 use Rattle.file_tables.specs.FileTables.{table_refusal, table_of_file, made_table, table_scratch}
@@ -60,6 +61,10 @@ module _ (s : List ℕ) (room len : ℕ) where
               | no h ↦ record { sound = f; steps = omega arith; cells = omega arith }
             ]
           ]
+
+  -- an accepted call shows nothing
+  pub table-accepts : accepts (table_refusal s room len) ≡ true → table_refusal s room len ≡ accepted
+  table-accepts e = let m = made (eqb-true _ 0 e) in table_0 m.sound m.steps m.cells
 
 module _ (s scratch table : List ℕ) where
   pub made-refused :

@@ -5,10 +5,10 @@
 --   made_table s room table    the table slice after the call: its first G entries are the table, and the others are untouched
 --   table_scratch s scratch len   the scratch slice after the call: its first N entries are zero, and the others are untouched
 --   TableMade s w t r w' t'   what making a table promises, with the scratch slice w and the table slice t at entry, w' and t' at exit:
---     refusal   the answer is the refusal, or acceptance
+--     answer    it refuses by the refusal, or is done
 --     table     the table slice, which a refused call leaves untouched
 --     scratch   the scratch slice, which a refused call leaves untouched
-use Rattle.std.specs.Prelude.{cond, List, ◌++◌, ◌≡◌, ℕ, ◌^◌, eqb, length, drop}
+use Rattle.std.specs.Prelude.{cond, Result, ⊤, List, ◌++◌, ◌≡◌, ℕ, ◌^◌, eqb, length, drop}
 use Rattle.cells.specs.Cells.{short_slice}
 use Rattle.differences.specs.Table.{table_at}
 use Rattle.evaluate.specs.Evaluate.{output_of, short_scratch}
@@ -17,6 +17,7 @@ use Rattle.fields.specs.File.{sizes_of, step_count}
 use Rattle.fields.specs.Steps.{steps_of}
 use Rattle.grid.specs.Grid.{axes_of, lows_of, grid_size, grid_vector}
 use Rattle.lists.specs.Lists.{tabulate}
+use Rattle.sizes.specs.Answered.{answered}
 use Rattle.sizes.specs.Sizes.{refused_by, accepted, accepts}
 use Rattle.sizes.specs.declared.Refusal.{Refusal}
 use Rattle.slices.specs.Slices.{cleared}
@@ -44,7 +45,7 @@ unfoldable pub table_scratch : List ℕ → List ℕ → ℕ → List ℕ
 table_scratch s scratch len =
     cond (accepts (table_refusal s (length scratch) len)) (cleared (step_count s) scratch) scratch
 
-pub record TableMade (s w t : List ℕ) (r : Refusal) (w' t' : List ℕ) : Type 0 where
-  pub refusal : r ≡ table_refusal s (length w) (length t)
+pub record TableMade (s w t : List ℕ) (r : Result ⊤ Refusal) (w' t' : List ℕ) : Type 0 where
+  pub answer : r ≡ answered (table_refusal s (length w) (length t)) tt
   pub table : t' ≡ made_table s (length w) t
   pub scratch : w' ≡ table_scratch s w (length t)

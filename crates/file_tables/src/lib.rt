@@ -9,13 +9,12 @@ use fields::{read_sizes, step_count};
 use file::check;
 use grid::{Grid, grid_of};
 use sizes::{INPUTS, Refusal, Sizes, refused_by};
-use slices::clear;
 use transform::transform_front;
 use vectors::{advance, lowest_words, vector_at};
 
 // The outputs of an accepted file at the `count` vectors of the grid, in dictionary order, go into the first entries
 // of the table slice. The vector of place 0 is decoded, and each later one is stepped to. Of the scratch slice the
-// first n entries are overwritten.
+// first n entries are overwritten. The counts d and `count` stand beside their lists, since `Filling` speaks of them.
 fn fill_outputs(
     file: &[u8],
     n: usize,
@@ -31,12 +30,9 @@ fn fill_outputs(
         scratch.new table.new }
 {
     let mut v = vector_at(axes, lows, d, 0);
-    let mut p = 0;
-    while p < count {
-        let y = output_at(file, n, &v, scratch);
-        table[p] = y;
+    for y in table[..count].iter_mut() {
+        *y = output_at(file, n, &v, scratch);
         advance(&axes, &lows, d, &mut v);
-        p += 1;
     }
 }
 
@@ -47,38 +43,33 @@ fn fill_table(file: &[u8], n: usize, z: Sizes, g: Grid, scratch: &mut [u64], tab
     ensures { TableFilled file.now scratch.old table.old
         scratch.new table.new }
 {
-    let d = z.d as usize;
-    let m = z.m as u64;
-    let axes = g.axes;
+    let d = usize::from(z.d);
+    let m = u64::from(z.m);
     let lows = lowest_words(z);
     let cells = g.size as usize;
-    fill_outputs(file, n, axes, lows, d, cells, scratch, table);
-    transform_front(table, axes, d, cells, m, false);
-    clear(scratch, n);
+    fill_outputs(file, n, g.axes, lows, d, cells, scratch, table);
+    transform_front::<false>(table, g.axes, d, cells, m);
+    scratch[..n].fill(0);
 }
 
 // The difference table of a file. Of the table slice the first G entries become the table: cell k holds the k-fold
-// forward difference of the exact values at the lowest values, modulo 2^m, in dictionary order. Number 0: accepted, and
-// the first N scratch entries are zero afterwards. Otherwise refused under document 01's conditions 1 to 8, 12
-// and 13, in its order, with both slices untouched.
-pub fn make_table(file: &[u8], scratch: &mut [u64], table: &mut [u64]) -> Refusal
+// forward difference of the exact values at the lowest values, modulo 2^m, in dictionary order; and the first N scratch
+// entries are zero afterwards. Refused under document 01's conditions 1 to 8, 12 and 13, in its order, with both slices
+// untouched.
+pub fn make_table(file: &[u8], scratch: &mut [u64], table: &mut [u64]) -> Result<(), Refusal>
     ensures { TableMade file.now scratch.old table.old result
         scratch.new table.new }
 {
-    let refusal = check(file);
-    let number = refusal.number;
-    if number != 0 {
-        return refusal;
-    }
+    check(file)?;
     let n = step_count(file);
     if scratch.len() < n {
-        return refused_by(12);
+        return Err(refused_by(12));
     }
     let z = read_sizes(file);
     let g = grid_of(z);
     if table.len() < g.size as usize {
-        return refused_by(13);
+        return Err(refused_by(13));
     }
     fill_table(file, n, z, g, scratch, table);
-    refused_by(0)
+    Ok(())
 }

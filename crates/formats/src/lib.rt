@@ -11,7 +11,8 @@ pub struct Format {
     pub length: u64,
 }
 
-// The format that a width byte gives: its top bit is the mark of a signed input, and the low seven bits are n.
+// The format that a width byte gives: its top bit is the mark of a signed input, and the low seven bits are n. By shift
+// and mask, as document 01 asks ('Form by location'), and under the name that the definition has.
 pub fn format_of(byte: u8) -> Format
     ensures { result ≡ format_of byte }
 {

@@ -22,11 +22,7 @@ fn axis(most: u64, n: u64) -> u64
     requires { most ≤ max_bound }
     ensures { (result ≡ min (2 ^ n) most) × (result ≤ max_bound) }
 {
-    if 7 <= n {
-        return most;
-    }
-    let all = 1 << n;
-    if all < most { all } else { most }
+    if 7 <= n { most } else { most.min(1 << n) }
 }
 
 // The grid of sizes with m from 1 to 64 and at most INPUTS inputs: each axis is the smaller of 2^n and L(m), and the
@@ -35,19 +31,13 @@ pub fn grid_of(z: Sizes) -> Grid
     requires { Sound z }
     ensures { result ≡ grid_of z }
 {
-    let m = z.m as u64;
-    let most = bound(m);
-    let d = z.d as usize;
-    let widths = z.widths;
+    let most = bound(z.m as u64);
     let mut axes = [0u64; INPUTS];
     let mut size: u64 = 1;
-    let mut i = 0;
-    while i < d {
-        let format = format_of(widths[i]);
-        let u = axis(most, format.length);
+    for i in 0..z.d as usize {
+        let u = axis(most, format_of(z.widths[i]).length);
         axes[i] = u;
-        size = size * u;
-        i += 1;
+        size *= u;
     }
     Grid { axes, size }
 }

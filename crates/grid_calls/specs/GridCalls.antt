@@ -10,8 +10,7 @@
 --   out       the answer slice gets the answer's words
 -- Where the call returns 0, the slice is as at entry.
 use Rattle.std.specs.Prelude.{cond, List, [], ◌∷◌, ◌++◌, ◌≡◌, ℕ, ◌+◌, eqb, replicate}
-use Rattle.figures.specs.Figures.{figures_of}
-use Rattle.figures.specs.declared.Figures.{Figures}
+use Rattle.figures.specs.Figures.{Figures, figures_of}
 use Rattle.file.specs.Check.{file_number, refusal_of}
 use Rattle.fields.specs.File.{sizes_of}
 use Rattle.grid.specs.Grid.{grid_of}

@@ -29,16 +29,21 @@ pub fn bound_call(m: u64, out: &mut [u64]) -> u32
     if out.len() != BOUND_LENGTH {
         return 0;
     }
-    let f = figures_of(m);
-    let r = f.refusal;
-    let q = f.quotients;
-    copy_front(
-        &[
-            r.number, r.file, r.step, f.bound, q[0], q[1], q[2], q[3], q[4], q[5],
-        ],
-        out,
-        BOUND_LENGTH,
-    );
+    match figures_of(m) {
+        Ok(f) => {
+            let q = f.quotients;
+            copy_front(
+                &[0, 0, 0, f.bound, q[0], q[1], q[2], q[3], q[4], q[5]],
+                out,
+                BOUND_LENGTH,
+            );
+        }
+        Err(r) => copy_front(
+            &[r.number, r.file, r.step, 0, 0, 0, 0, 0, 0, 0],
+            out,
+            BOUND_LENGTH,
+        ),
+    }
     1
 }
 
@@ -49,16 +54,14 @@ pub fn grid_call(file: &[u8], out: &mut [u64]) -> u32
     if out.len() != GRID_LENGTH {
         return 0;
     }
-    let r = check(file);
-    put_refusal(out, r);
-    let number = r.number;
-    if number != 0 {
+    let judged = check(file);
+    put_refusal(out, judged);
+    if judged.is_err() {
         clear(&mut out[REFUSAL_LENGTH..], INPUTS + 1);
         return 1;
     }
     let g = grid_of(read_sizes(file));
-    let axes = g.axes;
-    copy_front(&axes, &mut out[REFUSAL_LENGTH..], INPUTS);
+    copy_front(&g.axes, &mut out[REFUSAL_LENGTH..], INPUTS);
     out[AT_SIZE] = g.size;
     1
 }

@@ -25,7 +25,7 @@ use Rattle.ranges.proofs.Search.{first-most, first-before}
 use Rattle.sizes.specs.Sizes.{max_inputs}
 use Rattle.sizes.proofs.Padded.{padded-entry}
 use Rattle.vectors.specs.Vectors.{low_words, GridWord}
-use Rattle.grid_lines.specs.Lines.{last_axis, last_low}
+use Rattle.grid_lines.specs.Lines.{last_axis, last_low, along_of}
 
 pub record Agreed (w : ℕ) (s₁ s₂ : List ℕ) (n₁ n₂ d lw : ℕ) (inputs₀ before₁ before₂ rows₁ rows₂ inputs : List ℕ) (a t : ℕ) : Type 0 where
   pub long : length inputs ≡ length inputs₀
@@ -70,7 +70,7 @@ pub last_on_grid :
 last_on_grid {p = p} k v t h e =
     record {
       count = t;
-      below = omega (arith, axis-at k (p.d - 1) (omega (arith, plan.inputs k, k.files.sound₁.inputs_low)));
+      below = omega (arith, axis-at k (p.d - 1) (omega (arith, (plan.some_inputs k).0)));
       above = e ∙ ap (λ n. line_word n t) (low-at k (p.d - 1));
     }
 
@@ -93,18 +93,18 @@ module _
     d = p.d
 
     low : 1 ≤ d
-    low = omega (arith, plan.inputs k.planned, k.planned.files.sound₁.inputs_low)
+    low = (plan.some_inputs k.planned).0
 
     high : d ≤ max_inputs
-    high = omega (arith, plan.inputs k.planned, k.planned.files.sound₁.inputs_high)
+    high = (plan.some_inputs k.planned).1
 
     pub agreed_step :
-        (list₁ list₂ : List ℕ) (count₁ count₂ m b : ℕ) → t < last_axis p → length inputs' ≡ length inputs → length rows₁' ≡ length rows₁ → length rows₂' ≡ length rows₂ →
-        Rest s₁ (d - 1) n₁ list₁ count₁ → Rest s₂ (d - 1) n₂ list₂ count₂ → Refreshed (record { n = n₁; count = count₁; d = d; u = last_axis p; low = last_low p; w = w }) s₁ inputs' rows₁ rows₁' list₁ t →
-        Refreshed (record { n = n₂; count = count₂; d = d; u = last_axis p; low = last_low p; w = w }) s₂ inputs' rows₂ rows₂' list₂ t → m ≡ (sizes_of s₁).m →
+        (list₁ list₂ : List ℕ) (m b : ℕ) → t < last_axis p → length inputs' ≡ length inputs → length rows₁' ≡ length rows₁ → length rows₂' ≡ length rows₂ →
+        Rest s₁ (d - 1) n₁ list₁ (length list₁) → Rest s₂ (d - 1) n₂ list₂ (length list₂) → Refreshed (along_of p n₁ w) s₁ inputs' rows₁ rows₁' list₁ t →
+        Refreshed (along_of p n₂ w) s₂ inputs' rows₂ rows₂' list₂ t → m ≡ (sizes_of s₁).m →
         b ≡ first (unequal w m rows₁' (n₁ - 1) rows₂' (n₂ - 1)) 0 a →
         Agreed w s₁ s₂ n₁ n₂ d (last_low p) inputs₀ before₁ before₂ rows₁' rows₂' inputs' b (t + 1)
-    agreed_step list₁ list₂ count₁ count₂ m b below long long₁ long₂ rest₁ rest₂ run₁ run₂ e found =
+    agreed_step list₁ list₂ m b below long long₁ long₂ rest₁ rest₂ run₁ run₂ e found =
         record {
           long = long ∙ was.long;
           long₁ = long₁ ∙ was.long₁;
@@ -125,12 +125,12 @@ module _
 
         now₁ : (l : ℕ) (x : List ℕ) → l < w → Front w d inputs₀ l x → Last d (last_low p) t x → HeldTo w s₁ x rows₁' l n₁
         now₁ l x g f q =
-            refreshed w d inputs₀ inputs inputs' word (line_word (last_low p) (t - 1)) t low high was.fronts filled s₁ n₁ (last_axis p) (last_low p) rows₁ rows₁' list₁ count₁
+            refreshed w d inputs₀ inputs inputs' word (line_word (last_low p) (t - 1)) t low high was.fronts filled s₁ n₁ (last_axis p) (last_low p) rows₁ rows₁' list₁
             (plan.inputs k.planned) run₁ rest₁ was.held₁ l x g f (q ∙ sym at)
 
         now₂ : (l : ℕ) (x : List ℕ) → l < w → Front w d inputs₀ l x → Last d (last_low p) t x → HeldTo w s₂ x rows₂' l n₂
         now₂ l x g f q =
-            refreshed w d inputs₀ inputs inputs' word (line_word (last_low p) (t - 1)) t low high was.fronts filled s₂ n₂ (last_axis p) (last_low p) rows₂ rows₂' list₂ count₂
+            refreshed w d inputs₀ inputs inputs' word (line_word (last_low p) (t - 1)) t low high was.fronts filled s₂ n₂ (last_axis p) (last_low p) rows₂ rows₂' list₂
             (plan.inputs k.planned ∙ ap (λ z. z.d) k.planned.files.same) run₂ rest₂ was.held₂ l x g f (q ∙ sym at)
 
         fewer : b ≤ a

@@ -1,9 +1,10 @@
 // Two comparable files compared along several lines of the grid, a lane for each.
 #![tactic(auto)]
 
-ghost use Rattle.std.specs.Prelude.{◌≡◌, true, false};
+ghost use Rattle.std.specs.Prelude.{◌≡◌, ◌≤◌, true, false};
 ghost use Rattle.batches.specs.Prepared.{Prepared};
-ghost use Rattle.grid_lines.specs.Lines.{Dependents, Fronts, Agreeing};
+ghost use Rattle.sizes.specs.Sizes.{max_inputs};
+ghost use Rattle.grid_lines.specs.Lines.{along_of, Dependents, Fronts, Agreeing};
 
 use batches::Shape;
 use line_outputs::{Along, matching_lanes, refresh, save_outputs};
@@ -11,11 +12,19 @@ use plan::Plan;
 use row_lanes::first_unequal;
 use rows::fill_row;
 
-// How many steps of each file are listed.
-#[derive(Clone, Copy)]
-pub struct Counts {
-    pub c1: usize,
-    pub c2: usize,
+// How a file of n steps is run along the lines of a plan, in w lanes.
+fn along_lines(plan: Plan, n: usize, w: usize) -> Along
+    requires { (1 ≤ plan.d) × (plan.d ≤ max_inputs) }
+    ensures { result ≡ along_of plan n w }
+{
+    let last = plan.d - 1;
+    Along {
+        n,
+        d: plan.d,
+        u: plan.axes[last],
+        low: plan.lows[last],
+        w,
+    }
 }
 
 // A count of first lanes that agree in the outputs at every count of the last input below its axis; that the lane after
@@ -30,56 +39,39 @@ fn agreeing_apart(
     other: &mut [u64],
     list1: &[usize],
     list2: &[usize],
-    counts: Counts,
     inputs: &mut [u64],
 ) -> usize
     requires prepared { Prepared shape file1.now file2.now plan rows.old other.old }
     requires turn_value { shape.turn ≡ false }
-    requires dependents { Dependents file1.now file2.now plan list1.now list2.now counts }
+    requires dependents { Dependents file1.now file2.now plan list1.now list2.now }
     requires fronts { Fronts shape.w file1.now plan inputs.old }
     ensures { Agreeing shape.w file1.now file2.now plan inputs.old result }
 {
-    let d = plan.d;
-    let n1 = plan.n1;
-    let n2 = plan.n2;
-    let m = plan.m;
-    let w = shape.w;
-    let axes = plan.axes;
-    let lows = plan.lows;
-    let u = axes[d - 1];
-    let low = lows[d - 1];
-    let along1 = Along {
-        n: n1,
-        count: counts.c1,
-        d,
-        u,
-        low,
-        w,
-    };
-    let along2 = Along {
-        n: n2,
-        count: counts.c2,
-        d,
-        u,
-        low,
-        w,
-    };
-    let mut agreeing = w;
-    let mut t = 0;
-    while t < u {
-        fill_row(inputs, d - 1, std::num::wrapping_add_u64(low, t), w);
+    let along1 = along_lines(plan, plan.n1, shape.w);
+    let along2 = along_lines(plan, plan.n2, shape.w);
+    let mut agreeing = shape.w;
+    for t in 0..along1.u {
+        fill_row(inputs, plan.d - 1, along1.low.wrapping_add(t), shape.w);
         refresh(file1, along1, inputs, rows, list1, t);
         refresh(file2, along2, inputs, other, list2, t);
-        agreeing = first_unequal(rows, n1 - 1, other, n2 - 1, m, agreeing, w);
+        agreeing = first_unequal(
+            rows,
+            plan.n1 - 1,
+            other,
+            plan.n2 - 1,
+            plan.m,
+            agreeing,
+            shape.w,
+        );
         if agreeing == 0 {
             return 0;
         }
-        t += 1;
     }
     agreeing
 }
 
-// The same with the files run in turn: file 1 along the lines, its outputs saved, then file 2 in the same rows.
+// The same with the files run in turn: file 1 along the lines, its outputs saved, then file 2 in the same rows. It goes
+// another way than agreeing_apart, which runs both files at each place.
 fn agreeing_in_turn(
     file1: &[u8],
     file2: &[u8],
@@ -89,37 +81,16 @@ fn agreeing_in_turn(
     other: &mut [u64],
     list1: &[usize],
     list2: &[usize],
-    counts: Counts,
     inputs: &mut [u64],
 ) -> usize
     requires prepared { Prepared shape file1.now file2.now plan rows.old other.old }
     requires turn_value { shape.turn ≡ true }
-    requires dependents { Dependents file1.now file2.now plan list1.now list2.now counts }
+    requires dependents { Dependents file1.now file2.now plan list1.now list2.now }
     requires fronts { Fronts shape.w file1.now plan inputs.old }
     ensures { Agreeing shape.w file1.now file2.now plan inputs.old result }
 {
-    let d = plan.d;
-    let axes = plan.axes;
-    let lows = plan.lows;
-    let u = axes[d - 1];
-    let low = lows[d - 1];
-    let w = shape.w;
-    let along1 = Along {
-        n: plan.n1,
-        count: counts.c1,
-        d,
-        u,
-        low,
-        w,
-    };
-    let along2 = Along {
-        n: plan.n2,
-        count: counts.c2,
-        d,
-        u,
-        low,
-        w,
-    };
+    let along1 = along_lines(plan, plan.n1, shape.w);
+    let along2 = along_lines(plan, plan.n2, shape.w);
     save_outputs(file1, along1, rows, list1, inputs, other);
     matching_lanes(file2, along2, rows, list2, inputs, other)
 }
@@ -134,20 +105,15 @@ pub fn agreeing_lanes(
     other: &mut [u64],
     list1: &[usize],
     list2: &[usize],
-    counts: Counts,
     inputs: &mut [u64],
 ) -> usize
     requires prepared { Prepared shape file1.now file2.now plan rows.old other.old }
-    requires dependents { Dependents file1.now file2.now plan list1.now list2.now counts }
+    requires dependents { Dependents file1.now file2.now plan list1.now list2.now }
     requires fronts { Fronts shape.w file1.now plan inputs.old }
     ensures { Agreeing shape.w file1.now file2.now plan inputs.old result }
 {
     if shape.turn {
-        return agreeing_in_turn(
-            file1, file2, plan, shape, rows, other, list1, list2, counts, inputs,
-        );
+        return agreeing_in_turn(file1, file2, plan, shape, rows, other, list1, list2, inputs);
     }
-    agreeing_apart(
-        file1, file2, plan, shape, rows, other, list1, list2, counts, inputs,
-    )
+    agreeing_apart(file1, file2, plan, shape, rows, other, list1, list2, inputs)
 }

@@ -14,7 +14,7 @@ use std::io;
 use std::io::Read;
 use std::rt::{Env, Files};
 
-// Room for the system's reason and that number.
+// Room for the system's reason and its number.
 const REASON_ROOM: usize = 300;
 
 // Says on standard error that something could not be read or written, with the system's reason, but for the number
@@ -30,7 +30,8 @@ pub fn say_failed(rt: &impl Eprint, name: &str, error: &io::Error) {
     let _ = eprintln!(rt; "{name}: {reason}");
 }
 
-// What a read into `rest` answered: how many bytes it brought, or -1 where it failed; then the file is named on
+// What a read into `rest` answered: how many bytes it brought, or -1 where it failed, since the statement ReadsEnd is
+// about answers that are integers; then the file is named on
 // standard error.
 fn read_some(rt: &impl Eprint, name: &str, file: &mut impl Read, rest: &mut [u8]) -> isize {
     match file.read(rest) {
@@ -49,12 +50,12 @@ fn read_to_end(rt: &impl Eprint, name: &str, file: &mut impl Read, buf: &mut [u8
     requires { longest_file < length buf.old }
     ensures { ReadWhole buf.new result.count result.end }
 {
+    // Not a `for`: how far `done` goes is what the read brought.
     let mut done = 0;
     while done < buf.len() {
         let rest = &mut buf[done..];
         let got = read_some(rt, name, file, rest);
-        let next = after_read(done, got, rest);
-        match next {
+        match after_read(done, got, rest) {
             AfterRead::Ended(reading) => return reading,
             AfterRead::More(sum) => done = sum,
         }

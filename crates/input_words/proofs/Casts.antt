@@ -1,67 +1,61 @@
--- What the machine makes of a word that it takes as an integer, and of an integer that it takes as a word: the integer is read back from its bits,
--- and the complement of a negative one is what its word lacks of 2^64 − 1.
+-- What the machine makes of a word that it takes as an integer, and of an integer that it takes as a word, is what the definitions say; and the
+-- lowest integer of 64 bits, shifted, is the lowest value of n bits.
 -- Assumes nothing.
 use mathlib.Core.Bool.{true, false, ◌&&◌}
-use mathlib.Core.Path.{◌≡◌, sym, ◌∙◌, ap, ap₂, subst}
-use Prim.Native.Nat.{ℕ, ◌-◌, ◌^◌, ◌≤◌, ◌<◌}
+use mathlib.Core.Path.{◌≡◌, sym, ◌∙◌, ap, ap₂}
+use Prim.Native.Nat.{ℕ, zero, suc, ◌+◌, ◌*◌, ◌-◌, ◌/◌, ◌^◌, ◌≤◌, ◌<◌}
+use native.Mathlib.Numerals.{unary_clauses}
 use native.Mathlib.Omega.{arith}
-use borrow.Author.Tests.{ltb-true}
-use lib.Dec.{T}
-use lib.IntN.{ℤ, pos, negsuc, nat_abs, ◌-ℤ◌}
-use lib.Signed.{mag, non_neg, lt_z, le_z}
+use lib.IntN.{ℤ, pos, negsuc, ◌-ℤ◌}
+use lib.Pow.{pow_pos}
+use lib.Signed.{le_z}
 use mir.Syntax.{w64}
-use mir.Val.{SFits, to_z, of_z}
-use mir.ValLaws.{to_z_pos, to_z-of_z}
+use mir.Val.{Fits, SFits, to_z, of_z}
+use mir.ValLaws.{to_z-neg, to_z-of_z, of_z-to_z, to_z-Fits}
+use Rattle.std.proofs.Common.{pow-add}
+use Rattle.std.proofs.lemmas.Nat.{div-mul-add}
 use Rattle.formats.specs.Formats.{lowest}
 use Rattle.formats.specs.declared.Format.{Format}
 use Rattle.words.specs.Words.{word}
 use Rattle.words.proofs.Congruence.{word_pos}
-use Rattle.input_words.specs.InputWords.{signed_value, in_format}
-use Rattle.input_words.proofs.Complement.{complement_negsuc, complement_read}
-use Rattle.input_words.proofs.InputWords.{signed-natural, word-negative, in_signed}
+use Rattle.input_words.specs.InputWords.{Usable, signed_value, in_format}
+use Rattle.input_words.proofs.Complement.{complement_read}
+use Rattle.input_words.proofs.InputWords.{word-negative, signed_word, lowest-signed, half_most, in_signed}
 
-pub natural_read : (w : ℕ) → w < 2 ^ 63 → to_z w64 w ≡ signed_value w
-natural_read w h = to_z_pos w64 w h ∙ sym (signed-natural w h)
+-- the word of an integer
+pub cast_unsigned-word : (x : ℤ) → SFits w64 x → of_z w64 x ≡ word x
+cast_unsigned-word (pos a) f = sym (word_pos a (omega (arith, f.sfits)))
+cast_unsigned-word (negsuc a) f = sym (word-negative a (omega (arith, f.sfits)))
 
--- an integer, as its bits give it
+-- the integer of a word
+pub cast_signed-value : (w : ℕ) → Fits w64 w → to_z w64 w ≡ signed_value w
+cast_signed-value w f =
+    let x = to_z w64 w in
+    let fits = to_z-Fits w64 w f in
+    sym (signed_word x fits.sfits) ∙ ap signed_value (sym (cast_unsigned-word x fits) ∙ of_z-to_z w64 w f)
+
+less_one : (a b : ℕ) → 0 < a → 0 < b → (a - 1) * b + (b - 1) ≡ a * b - 1
+less_one zero b h k = absurd (omega arith)
+less_one (suc a) b h k = simp unary_clauses (omega arith)
+
+-- 2^63 − 1 divided by 2^(64 − n), rounded down
+shifted_most : (n : ℕ) → 1 ≤ n → n ≤ 64 → (2 ^ 63 - 1) / 2 ^ (64 - n) ≡ 2 ^ (n - 1) - 1
+shifted_most n low high =
+    let whole : n - 1 + (64 - n) ≡ 63 = omega arith in
+    let product : 2 ^ 63 ≡ 2 ^ (n - 1) * 2 ^ (64 - n) = rw whole at (pow-add 2 (n - 1) (64 - n)) in
+    let parts : 2 ^ 63 - 1 ≡ (2 ^ (n - 1) - 1) * 2 ^ (64 - n) + (2 ^ (64 - n) - 1) =
+    omega (arith, product, less_one (2 ^ (n - 1)) (2 ^ (64 - n)) (pow_pos (n - 1)) (pow_pos (64 - n))) in
+    ap (λ x. x / 2 ^ (64 - n)) parts ∙ div-mul-add (2 ^ (n - 1) - 1) (2 ^ (64 - n)) (2 ^ (64 - n) - 1) (omega (arith, pow_pos (64 - n)))
+
+pub lowest-shifted : (f : Format) → f.signed ≡ true → Usable f → to_z w64 (2 ^ 64 - suc ((2 ^ 63 - 1) / 2 ^ (64 - f.length))) ≡ lowest f
+lowest-shifted f s u =
+    ap (λ x. to_z w64 (2 ^ 64 - suc x)) (shifted_most f.length u.low u.high)
+    ∙ to_z-neg w64 (2 ^ (f.length - 1) - 1) (omega (arith, half_most f u, pow_pos (f.length - 1)))
+    ∙ sym (lowest-signed f s)
+
+-- the integer z, as its bits give it
 abbrev pub back : ℤ → ℤ
 back z = to_z w64 (of_z w64 z)
-
-read_back : (x : ℤ) → SFits w64 x → back x ≡ x
-read_back x f = to_z-of_z w64 x f
-
--- the integer z may be cast to a word, and r, which is made of that, is the word of x
-pub record Cast (x z : ℤ) (r : ℕ) : Type 0 where
-  pub natural : T (non_neg z)
-  pub room : nat_abs z < 2 ^ 63
-  pub made : r ≡ word x
-
-negative : (x : ℤ) → mag x < 2 ^ 63 → lt_z x (pos 0) ≡ true → Cast x (negsuc 0 -ℤ x) (2 ^ 64 - 1 - nat_abs (negsuc 0 -ℤ x))
-negative (pos a) h e = absurd (omega (arith, ltb-true a 0 e))
-negative (negsuc a) h e =
-    subst (λ z. Cast (negsuc a) z (2 ^ 64 - 1 - nat_abs z)) (sym (complement_negsuc a))
-    (record { natural = tt; room = h; made = omega (arith, word-negative a (omega arith)) })
-
-not_negative : (x : ℤ) → mag x < 2 ^ 63 → lt_z x (pos 0) ≡ false → Cast x x (nat_abs x)
-not_negative (pos a) h e = record { natural = tt; room = h; made = sym (word_pos a (omega arith)) }
-not_negative (negsuc a) h e = absurd (let z : ◌≡◌ {A = ℕ} 0 1 = cc in omega arith)
-
-pub below_0 : (x : ℤ) → SFits w64 x → lt_z (back x) (pos 0) ≡ true → Cast x (back (negsuc 0 -ℤ back x)) (2 ^ 64 - 1 - nat_abs (back (negsuc 0 -ℤ back x)))
-below_0 x f e =
-    subst (λ z. Cast x z (2 ^ 64 - 1 - nat_abs z)) (sym (complement_read x _ (read_back x f) f))
-    (negative x f.sfits (subst (λ z. lt_z z (pos 0) ≡ true) (read_back x f) e))
-
-pub from_0 : (x : ℤ) → SFits w64 x → lt_z (back x) (pos 0) ≡ false → Cast x (back x) (nat_abs (back x))
-from_0 x f e =
-    subst (λ z. Cast x z (nat_abs z)) (sym (read_back x f))
-    (not_negative x f.sfits (subst (λ z. lt_z z (pos 0) ≡ false) (read_back x f) e))
-
--- what is left of 2^64 − 1, and that it is the word
-pub below_0_room : (x : ℤ) → SFits w64 x → lt_z (back x) (pos 0) ≡ true → nat_abs (back (negsuc 0 -ℤ back x)) ≤ 18446744073709551615
-below_0_room x f e = let h = (below_0 x f e).room in omega arith
-
-pub below_0_made : (x : ℤ) → SFits w64 x → lt_z (back x) (pos 0) ≡ true → 18446744073709551615 - nat_abs (back (negsuc 0 -ℤ back x)) ≡ word x
-below_0_made x f e = (below_0 x f e).made
 
 -- the two tests of a signed input, as the machine makes them: the word's value is at least the lowest, and at most the highest
 pub in_tests :

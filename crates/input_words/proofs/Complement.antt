@@ -2,14 +2,14 @@
 -- back from the bits of an integer is that integer.
 -- Assumes nothing.
 use mathlib.Core.Path.{◌≡◌, sym, ◌∙◌, ap, subst}
-use Prim.Native.Nat.{ℕ, suc, ◌+◌, ◌^◌, ◌<◌}
+use Prim.Native.Nat.{ℕ, suc, ◌+◌}
 use native.Mathlib.Omega.{arith}
 use borrow.Author.Tests.{le-ltb}
 use lib.IntN.{ℤ, pos, negsuc, ◌-ℤ◌}
 use lib.Signed.{mag}
 use mir.Syntax.{w64}
 use mir.Val.{SFits, to_z, of_z}
-use mir.ValLaws.{to_z_pos, to_z-of_z}
+use mir.ValLaws.{to_z-of_z}
 use Rattle.integers.proofs.Ring.{sub-push, sub_eq}
 
 -- of a natural number, and of a negative one
@@ -31,10 +31,3 @@ complement_fits z v e f = subst (λ y. SFits w64 (negsuc 0 -ℤ y)) (sym e) (rec
 
 pub complement_read : (z v : ℤ) → v ≡ z → SFits w64 z → to_z w64 (of_z w64 (negsuc 0 -ℤ v)) ≡ negsuc 0 -ℤ z
 complement_read z v e f = to_z-of_z w64 (negsuc 0 -ℤ v) (complement_fits z v e f) ∙ ap (λ y. negsuc 0 -ℤ y) e
-
--- of a number that the machine takes as a signed one
-pub cast_complement_fits : (a : ℕ) → a < 2 ^ 63 → SFits w64 (negsuc 0 -ℤ to_z w64 a)
-cast_complement_fits a h = complement_fits (pos a) (to_z w64 a) (to_z_pos w64 a h) (record { sfits = h })
-
-pub cast_complement_read : (a : ℕ) → a < 2 ^ 63 → to_z w64 (of_z w64 (negsuc 0 -ℤ to_z w64 a)) ≡ negsuc a
-cast_complement_read a h = complement_read (pos a) (to_z w64 a) (to_z_pos w64 a h) (record { sfits = h }) ∙ complement_pos a

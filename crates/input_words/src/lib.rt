@@ -9,26 +9,19 @@ ghost use Rattle.input_words.specs.InputWords.{Usable, signed_value, in_format};
 use formats::Format;
 use words::cut;
 
-// The integer that a word gives in two's complement.
-#[tactic(auto, using(crate::proofs::Casts::natural_read))]
+// The integer that a word gives in two's complement. This and word_of are the library's casts under the names of their
+// definitions.
 pub fn signed_value(w: u64) -> i64
     ensures { result ≡ signed_value w }
 {
-    if w < 9223372036854775808 {
-        return w as i64;
-    }
-    -1 - ((18446744073709551615 - w) as i64)
+    w.cast_signed()
 }
 
 // The word of an integer, in two's complement.
-#[tactic(auto, using(crate::proofs::Casts::below_0_room, crate::proofs::Casts::below_0_made))]
 pub fn word_of(x: i64) -> u64
     ensures { result ≡ word x }
 {
-    if x < 0 {
-        return 18446744073709551615 - ((-1 - x) as u64);
-    }
-    x as u64
+    x.cast_unsigned()
 }
 
 // The lowest value of an input: -2^(n - 1) where it is signed, and 0 where it is not.
@@ -37,10 +30,10 @@ pub fn lowest_value(f: Format) -> i64
     ensures { result ≡ lowest f }
 {
     if f.signed {
-        let half: u64 = 1 << (f.length - 1);
-        return -1 - ((half - 1) as i64);
+        i64::MIN >> (64 - f.length)
+    } else {
+        0
     }
-    0
 }
 
 // Whether a word gives a value of the input: for a signed one by the order of integers, from the lowest value to the
@@ -54,7 +47,8 @@ pub fn in_format(f: Format, w: u64) -> bool
         let low = lowest_value(f);
         let high = -1 - low;
         let x = signed_value(w);
-        return low <= x && x <= high;
+        low <= x && x <= high
+    } else {
+        cut(w, f.length) == w
     }
-    cut(w, f.length) == w
 }

@@ -61,4 +61,4 @@ pub residue_low-product :
     x % 2 ^ 32 * (y % 2 ^ 32) % 2 ^ m ≡ remainder (a *ℤ b) (2 ^ m)
 residue_low-product m x y a b left right h = residue_mul m (x % 2 ^ 32) (y % 2 ^ 32) a b (cut_cut x 32 m h ∙ left) (cut_cut y 32 m h ∙ right)
 
-pub ruleset low_products = (arith, residue_low-product)
+pub ruleset products = (arith, residue_low-product, residue_product)

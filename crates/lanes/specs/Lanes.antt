@@ -15,6 +15,10 @@
 --                                               stands for their product
 --   Stepped w s inputs before after k           only row k was written, with the value of step k in each lane in which the rows before it hold
 --                                               theirs
+--   Chosen n count R                            the relation R gives each q below the count an index below n, one alone, and in increasing order
+--   Unchosen count R i                          i is not among these
+--   StepsRun w s n inputs before after count R  R gives each q below the count an index; where the rows of the others held the values at a vector, all
+--                                               n rows hold them
 --   AllRun w s n inputs after                   all n rows hold the values at the lanes' vectors
 --   ListedRun w s n inputs before after list c  where the rows held the values at a vector beside the lane's, and each step that is not listed
 --                                               does not depend on the input in which the two differ, all n rows hold the values at the lane's
@@ -70,6 +74,19 @@ pub record Product (w m : ℕ) (before after : List ℕ) (k a b : ℕ) : Type 0 
 pub record Stepped (w : ℕ) (s inputs before after : List ℕ) (k : ℕ) : Type 0 where
   pub row : (l : ℕ) (x : List ℕ) → l < w → Reads w s inputs l x → HeldTo w s x before l k → Held w s x after l k
   pub others : OthersKept w before after k
+
+pub record Chosen (n count : ℕ) (R : ℕ → ℕ → Type 0) : Type 0 where
+  pub below : (q k : ℕ) → q < count → R q k → k < n
+  pub single : (q i k : ℕ) → q < count → R q i → R q k → i ≡ k
+  pub increasing : (p q i k : ℕ) → p < q → q < count → R p i → R q k → i < k
+
+abbrev pub Unchosen : ℕ → (ℕ → ℕ → Type 0) → ℕ → Type 0
+Unchosen count R i = (q k : ℕ) → q < count → R q k → ¬ (k ≡ i)
+
+pub record StepsRun (w : ℕ) (s : List ℕ) (n : ℕ) (inputs before after : List ℕ) (count : ℕ) (R : ℕ → ℕ → Type 0) : Type 0 where
+  pub chosen : (q : ℕ) → q < count → (k : ℕ) × R q k
+  pub held :
+      (l : ℕ) (x : List ℕ) → l < w → Reads w s inputs l x → ((i : ℕ) → i < n → Unchosen count R i → Held w s x before l i) → HeldTo w s x after l n
 
 abbrev pub AllRun : ℕ → List ℕ → ℕ → List ℕ → List ℕ → Type 0
 AllRun w s n inputs after = (l : ℕ) (x : List ℕ) → l < w → Reads w s inputs l x → HeldTo w s x after l n

@@ -1,12 +1,12 @@
 // The steps of an accepted file run at several vectors at once, a lane of the rows for each: all steps, or those
-// alone that depend on one input. The loops over the steps are called with the constants LANES and FEW_LANES, so that
-// they are compiled for each.
+// alone that depend on one input. The loop over the steps is called with the constants LANES and FEW_LANES, so that it
+// is compiled for each.
 #![tactic(auto)]
 
-ghost use Rattle.std.specs.Prelude.{◌≤◌, ◌<◌};
+ghost use Rattle.std.specs.Prelude.{ℕ, ◌≤◌, ◌<◌, length};
 ghost use Rattle.dependence.specs.Dependence.{Listed};
 ghost use Rattle.rows.specs.Rows.{Operands};
-ghost use Rattle.lanes.specs.Lanes.{Room, LanesOnGrid, Product, Stepped, AllRun, ListedRun};
+ghost use Rattle.lanes.specs.Lanes.{Room, LanesOnGrid, Product, Stepped, Chosen, StepsRun, AllRun, ListedRun};
 
 use datapath::Step;
 use fields::{output_length, step_at};
@@ -19,7 +19,7 @@ pub const FEW_LANES: usize = 8;
 
 // Row k becomes the product of the earlier rows a and b modulo 2^m. Where m is 32 or less it is taken of the low 32
 // bits.
-#[tactic(auto, using(crate::proofs::Residues::low_products))]
+#[tactic(auto, using(crate::proofs::Residues::products))]
 fn product_row(m: u64, rows: &mut [u64], k: usize, a: usize, b: usize, w: usize)
     requires m_bound { m ≤ 64 }
     requires operands { Operands w rows.old k a b }
@@ -27,21 +27,21 @@ fn product_row(m: u64, rows: &mut [u64], k: usize, a: usize, b: usize, w: usize)
 {
     if m <= 32 {
         multiply_low_rows(rows, k, a, b, w);
-        return;
+    } else {
+        multiply_rows(rows, k, a, b, w);
     }
-    multiply_rows(rows, k, a, b, w);
 }
 
 // Row k becomes the value of step k modulo 2^m, in each lane in which the rows before it hold the values of the steps
-// before.
+// before. Inlined, as step_rows is, so that w is a constant in the loops over the lanes.
+#[inline(always)]
 fn step_row(file: &[u8], n: usize, inputs: &[u64], rows: &mut [u64], k: usize, w: usize)
     requires room { Room w file.now n inputs.now rows.old }
     requires k_lt_n { k < n }
     requires lanes_on_grid { LanesOnGrid w file.now inputs.now }
     ensures { Stepped w file.now inputs.now rows.old rows.new k }
 {
-    let step = step_at(file, n, k);
-    match step {
+    match step_at(file, n, k) {
         Step::Input(i) => copy_row(inputs, i, rows, k, w),
         Step::Constant(c) => fill_row(rows, k, c, w),
         Step::Add(a, b) => add_rows(rows, k, a, b, w),
@@ -50,16 +50,48 @@ fn step_row(file: &[u8], n: usize, inputs: &[u64], rows: &mut [u64], k: usize, w
     }
 }
 
-// All rows become the values of the steps modulo 2^m.
-fn all_rows(file: &[u8], n: usize, inputs: &[u64], rows: &mut [u64], w: usize)
+// The rows of `count` steps become their values modulo 2^m, one after another: of step(0), step(1) and so on.
+#[inline(always)]
+fn step_rows<F: Fn(usize) -> usize>(
+    file: &[u8],
+    n: usize,
+    inputs: &[u64],
+    rows: &mut [u64],
+    count: usize,
+    step: F,
+    w: usize,
+)
     requires room { Room w file.now n inputs.now rows.old }
+    requires callable { (q : ℕ) → q < count → F.pre step q }
+    requires chosen { Chosen n count (F.post step) }
     requires lanes_on_grid { LanesOnGrid w file.now inputs.now }
-    ensures { AllRun w file.now n inputs.now rows.new }
+    ensures { StepsRun w file.now n inputs.now rows.old rows.new count (F.post step) }
 {
-    let mut k = 0;
-    while k < n {
-        step_row(file, n, inputs, rows, k, w);
-        k += 1;
+    for q in 0..count {
+        step_row(file, n, inputs, rows, step(q), w);
+    }
+}
+
+// The same, compiled for each of the two counts of lanes.
+fn run_steps<F: Fn(usize) -> usize>(
+    file: &[u8],
+    n: usize,
+    inputs: &[u64],
+    rows: &mut [u64],
+    count: usize,
+    step: F,
+    w: usize,
+)
+    requires room { Room w file.now n inputs.now rows.old }
+    requires callable { (q : ℕ) → q < count → F.pre step q }
+    requires chosen { Chosen n count (F.post step) }
+    requires lanes_on_grid { LanesOnGrid w file.now inputs.now }
+    ensures { StepsRun w file.now n inputs.now rows.old rows.new count (F.post step) }
+{
+    if w == LANES {
+        step_rows(file, n, inputs, rows, count, step, LANES);
+    } else {
+        step_rows(file, n, inputs, rows, count, step, FEW_LANES);
     }
 }
 
@@ -69,57 +101,18 @@ pub fn run_all(file: &[u8], n: usize, inputs: &[u64], rows: &mut [u64], w: usize
     requires lanes_on_grid { LanesOnGrid w file.now inputs.now }
     ensures { AllRun w file.now n inputs.now rows.new }
 {
-    if w == LANES {
-        all_rows(file, n, inputs, rows, LANES);
-        return;
-    }
-    all_rows(file, n, inputs, rows, FEW_LANES);
-}
-
-// The rows of the listed steps alone are computed again.
-fn listed_rows(
-    file: &[u8],
-    n: usize,
-    inputs: &[u64],
-    rows: &mut [u64],
-    list: &[usize],
-    count: usize,
-    w: usize,
-)
-    requires room { Room w file.now n inputs.now rows.old }
-    requires listed { Listed n list.now count }
-    requires lanes_on_grid { LanesOnGrid w file.now inputs.now }
-    ensures { ListedRun w file.now n inputs.now rows.old rows.new
-        list.now count }
-{
-    let mut q = 0;
-    while q < count {
-        step_row(file, n, inputs, rows, list[q], w);
-        q += 1;
-    }
+    run_steps(file, n, inputs, rows, n, |k| k, w);
 }
 
 // The rows of the listed steps alone are computed again. Where the rows hold the values at a vector, modulo 2^m, and
 // every step that is not listed does not depend on input j, they then hold the values at a vector that differs from
 // it in input j.
-pub fn run_listed(
-    file: &[u8],
-    n: usize,
-    inputs: &[u64],
-    rows: &mut [u64],
-    list: &[usize],
-    count: usize,
-    w: usize,
-)
+pub fn run_listed(file: &[u8], n: usize, inputs: &[u64], rows: &mut [u64], list: &[usize], w: usize)
     requires room { Room w file.now n inputs.now rows.old }
-    requires listed { Listed n list.now count }
+    requires listed { Listed n list.now (length list.now) }
     requires lanes_on_grid { LanesOnGrid w file.now inputs.now }
     ensures { ListedRun w file.now n inputs.now rows.old rows.new
-        list.now count }
+        list.now (length list.now) }
 {
-    if w == LANES {
-        listed_rows(file, n, inputs, rows, list, count, LANES);
-        return;
-    }
-    listed_rows(file, n, inputs, rows, list, count, FEW_LANES);
+    run_steps(file, n, inputs, rows, list.len(), |q| list[q], w);
 }

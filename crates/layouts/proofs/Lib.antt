@@ -1,5 +1,6 @@
 pub mod Answers
 pub mod Entries
+pub mod Given
 pub mod Offsets
 pub mod Sessions
 pub mod Sizes

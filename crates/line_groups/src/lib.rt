@@ -9,7 +9,7 @@ ghost use Rattle.line_groups.specs.Groups.{Lists, Agreed};
 
 use batches::{Shape, set_lanes};
 use dependence::list_dependent;
-use grid_lines::{Counts, agreeing_lanes};
+use grid_lines::agreeing_lanes;
 use plan::{Plan, Span};
 use rows::LANES;
 use sizes::INPUTS;
@@ -35,18 +35,15 @@ pub fn agreed_lines(
     ensures { Agreed file1.now file2.now plan span flags.old result flags.new }
 {
     let d = plan.d;
-    let axes = plan.axes;
-    let lows = plan.lows;
     let w = shape.w;
-    let stop = span.end;
-    let c1 = list_dependent(file1, plan.n1, d - 1, flags, list1);
-    let c2 = list_dependent(file2, plan.n2, d - 1, flags, list2);
-    let counts = Counts { c1, c2 };
+    let count1 = list_dependent(file1, plan.n1, d - 1, flags, list1);
+    let count2 = list_dependent(file2, plan.n2, d - 1, flags, list2);
     let mut inputs = [0u64; LANES * INPUTS];
     let wide = w as u64;
     let mut r = span.from;
-    while wide <= stop - r {
-        set_lanes(&mut inputs, axes, lows, d - 1, r, w, w);
+    // Not a `for`: it ends where fewer lines are left than there are lanes, and that line is the answer.
+    while wide <= span.end - r {
+        set_lanes(&mut inputs, plan.axes, plan.lows, d - 1, r, w, w);
         let l = agreeing_lanes(
             file1,
             file2,
@@ -54,9 +51,8 @@ pub fn agreed_lines(
             shape,
             rows,
             other,
-            list1,
-            list2,
-            counts,
+            &list1[..count1],
+            &list2[..count2],
             &mut inputs,
         );
         if l < w {

@@ -4,6 +4,9 @@
 --   Last d low t x                              the last of the d inputs of the vector x stands the count t above low
 --   Refreshed a s inputs before after list t    all rows hold the values at the lanes' vectors, where t is 0, or where they held those at vectors
 --                                               beside these, and the steps that are not listed do not depend on the input in which the two differ
+--   RefreshedAt a s inputs inputs' before after list t
+--                                               the row of the last input stands the count t above its lowest value in every lane, every lane is on
+--                                               the grid, and the rows are refreshed so
 --   AlongLine a s inputs list                   what running a file along lines asks: d, and the axis and the lowest word of the last input, are the
 --                                               file's, each step that is not listed does not depend on that input, the slice has a row for each
 --                                               input, and every lane is on the grid
@@ -16,7 +19,7 @@ use Rattle.dependence.specs.Dependence.{Beside, Listed, Rest}
 use Rattle.fields.specs.File.{sizes_of}
 use Rattle.grid.specs.Grid.{axes_of}
 use Rattle.lanes.specs.Lanes.{Reads, HeldTo, Shown, LanesOnGrid}
-use Rattle.rows.specs.Rows.{lane}
+use Rattle.rows.specs.Rows.{lane, Written}
 use Rattle.vectors.specs.Vectors.{low_words}
 use Rattle.line_outputs.specs.declared.Along.{Along}
 
@@ -31,15 +34,20 @@ Last d low t x = slice_index x (d - 1) ≡ line_word low t
 
 abbrev pub Refreshed : Along → List ℕ → List ℕ → List ℕ → List ℕ → List ℕ → ℕ → Type 0
 Refreshed a s inputs before after list t =
-    (j l : ℕ) (x y : List ℕ) → l < a.w → Rest s j a.n list a.count → Beside j x y → Reads a.w s inputs l y →
+    (j l : ℕ) (x y : List ℕ) → l < a.w → Rest s j a.n list (length list) → Beside j x y → Reads a.w s inputs l y →
     (0 < t → HeldTo a.w s x before l a.n) → HeldTo a.w s y after l a.n
+
+pub record RefreshedAt (a : Along) (s inputs inputs' before after list : List ℕ) (t : ℕ) : Type 0 where
+  pub last : Written a.w inputs inputs' (a.d - 1) (λ l. line_word a.low t)
+  pub on_grid : LanesOnGrid a.w s inputs'
+  pub rows : Refreshed a s inputs' before after list t
 
 pub record AlongLine (a : Along) (s inputs list : List ℕ) : Type 0 where
   pub input_count : a.d ≡ (sizes_of s).d
   pub axis : a.u ≡ slice_index (axes_of (sizes_of s)) (a.d - 1)
   pub lowest : a.low ≡ slice_index (low_words (sizes_of s)) (a.d - 1)
-  pub listed : Listed a.n list a.count
-  pub rest : Rest s (a.d - 1) a.n list a.count
+  pub listed : Listed a.n list (length list)
+  pub rest : Rest s (a.d - 1) a.n list (length list)
   pub room : a.w * a.d ≤ length inputs
   pub on_grid : LanesOnGrid a.w s inputs
 

@@ -2,64 +2,45 @@
 #![tactic(auto)]
 
 ghost use Rattle.std.specs.Prelude.{◌≡◌};
+ghost use Rattle.sizes.specs.Answered.{answered};
 ghost use Rattle.sessions.specs.Session.{same_sizes, pair_refusal, no_session, opened};
 
 use fields::read_sizes;
 use file::check_as;
-use sessions::{Mark, Opened, Session};
+use sessions::{Mark, Session};
 use sizes::{INPUTS, Refusal, Sizes, refused_by};
 
-// Whether m, d and all width bytes are the same.
+// Whether m, d and all width bytes are the same: `==` under the name that the definition has.
+#[tactic(auto, using(crate::proofs::Same::derived_same))]
 pub fn same_sizes(z: Sizes, w: Sizes) -> bool
     ensures { result ≡ same_sizes z w }
 {
-    if z.m != w.m {
-        return false;
-    }
-    if z.d != w.d {
-        return false;
-    }
-    let a = z.widths;
-    let b = w.widths;
-    let mut i = 0;
-    while i < INPUTS {
-        if a[i] != b[i] {
-            return false;
-        }
-        i += 1;
-    }
-    true
+    z == w
 }
 
-// What opening and continuing judge of two files: file 1, file 2, and 9.
-pub fn pair_refusal(file1: &[u8], file2: &[u8]) -> Refusal
-    ensures { result ≡ pair_refusal file1.now file2.now }
+// Whether opening and continuing take two files; else what they are refused by: file 1, file 2 or 9, in this order.
+pub fn pair_refusal(file1: &[u8], file2: &[u8]) -> Result<(), Refusal>
+    ensures { result ≡ answered (pair_refusal file1.now file2.now) tt }
 {
-    let r1 = check_as(file1, 1);
-    let number1 = r1.number;
-    if number1 != 0 {
-        return r1;
-    }
-    let r2 = check_as(file2, 2);
-    let number2 = r2.number;
-    if number2 != 0 {
-        return r2;
-    }
+    check_as(file1, 1)?;
+    check_as(file2, 2)?;
     if same_sizes(read_sizes(file1), read_sizes(file2)) {
-        return refused_by(0);
+        Ok(())
+    } else {
+        Err(refused_by(9))
     }
-    refused_by(9)
 }
 
-// A session of zeros, marked open.
-fn no_session() -> Session
+// A session of zeros, marked open: what is handed out where opening is refused.
+#[tactic(auto, unfolding(sessions::specs::Session::no_session))]
+pub fn no_session() -> Session
     ensures { result ≡ no_session }
 {
     Session {
         sizes: Sizes {
             m: 0,
             d: 0,
-            widths: [0u8; INPUTS],
+            widths: [0; INPUTS],
         },
         position: 0,
         mark: Mark::Open,
@@ -67,26 +48,14 @@ fn no_session() -> Session
 }
 
 // Opens a session on two files: their sizes, position 0, open. Refused under document 01's conditions 1 to 9, file 1
-// before file 2, with a session of zeros, marked open.
-pub fn open_session(file1: &[u8], file2: &[u8]) -> Opened
-    ensures { result ≡ opened file1.now file2.now }
+// before file 2.
+pub fn open_session(file1: &[u8], file2: &[u8]) -> Result<Session, Refusal>
+    ensures { result ≡ answered (opened file1.now file2.now).refusal (opened file1.now file2.now).session }
 {
-    let refusal = pair_refusal(file1, file2);
-    let number = refusal.number;
-    if number != 0 {
-        let none = no_session();
-        return Opened {
-            refusal,
-            session: none,
-        };
-    }
-    let sizes = read_sizes(file1);
-    Opened {
-        refusal,
-        session: Session {
-            sizes,
-            position: 0,
-            mark: Mark::Open,
-        },
-    }
+    pair_refusal(file1, file2)?;
+    Ok(Session {
+        sizes: read_sizes(file1),
+        position: 0,
+        mark: Mark::Open,
+    })
 }

@@ -36,6 +36,13 @@ module _ {s₁ s₂ : List ℕ} {p : Plan} (k : Planned s₁ s₂ p) where
   unfolding plan_of
   inputs = ap (λ (q : Plan). q.d) k.plan
 
+  -- there is an input, and a step in each file
+  pub some_inputs : (1 ≤ p.d) × (p.d ≤ max_inputs)
+  some_inputs = (omega (arith, inputs, k.files.sound₁.inputs_low), omega (arith, inputs, k.files.sound₁.inputs_high))
+
+  pub some_steps : (1 ≤ p.n1) × (1 ≤ p.n2)
+  some_steps = (omega (arith, count₁, k.files.sound₁.count_low), omega (arith, count₂, k.files.sound₂.count_low))
+
   pub vectors : p.size ≡ grid_size (sizes_of s₁)
   unfolding plan_of grid_of
   vectors = ap (λ (q : Plan). q.size) k.plan

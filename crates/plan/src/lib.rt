@@ -37,14 +37,15 @@ pub fn plan_of(file1: &[u8], file2: &[u8], z: Sizes) -> Plan
     requires z_value { z ≡ sizes_of file1.now }
     ensures { result ≡ plan_of file1.now file2.now }
 {
+    // Each array goes into the plan through a variable, which is the form that can be proved.
     let g = grid_of(z);
     let axes = g.axes;
     let lows = lowest_words(z);
     Plan {
         n1: step_count(file1),
         n2: step_count(file2),
-        m: z.m as u64,
-        d: z.d as usize,
+        m: u64::from(z.m),
+        d: usize::from(z.d),
         axes,
         lows,
         size: g.size,

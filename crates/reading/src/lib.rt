@@ -13,14 +13,16 @@ pub enum ReadEnd {
     Full,
 }
 
-// What reading a file came to: how many bytes it gave, at the start of the buffer, and how it ended.
+// What reading a file came to: how many bytes it gave, at the start of the buffer, and how it ended. The statement
+// ReadWhole speaks of both.
 #[derive(Clone, Copy)]
 pub struct Reading {
     pub count: usize,
     pub end: ReadEnd,
 }
 
-// What one read comes to: it ends reading, or so many bytes have come by now and reading goes on.
+// What one read comes to: it ends reading, or so many bytes have come by now and reading goes on. It is no Result: that
+// a file has ended is no error, and the statement ReadsEnd names both cases.
 #[derive(Clone, Copy)]
 pub enum AfterRead {
     Ended(Reading),
@@ -44,9 +46,9 @@ pub fn unread() -> Reading
     }
 }
 
-// What a read into `rest` comes to that answered `got`, where `done` bytes came before it: one that failed ends
-// reading with no bytes, whatever came before; one that brought nothing ends it at the end of the file, with the
-// bytes that came before; after any other reading goes on.
+// What a read into `rest` comes to, where it answered `got`, below 0 where it failed (the statement ReadsEnd has every
+// integer), and `done` bytes came before it: one that failed ends reading with no bytes, whatever came before; one that
+// brought nothing ends it at the end of the file, with the bytes that came before; after any other reading goes on.
 pub fn after_read(done: usize, got: isize, rest: &[u8]) -> AfterRead
     requires { done + length rest.now < 2 ^ 64 }
     ensures { result ≡ after_read done got (length rest.now) }
@@ -68,11 +70,9 @@ pub fn after_read(done: usize, got: isize, rest: &[u8]) -> AfterRead
 }
 
 // Whether a program that was started with `count` words, its own name among them, was given no file names or two.
+#[tactic(auto, unfolding(crate::specs::Reading::none_or_two))]
 pub fn none_or_two(count: usize) -> bool
     ensures { result ≡ none_or_two count }
 {
-    if count == 1 {
-        return true;
-    }
-    count == 3
+    count == 1 || count == 3
 }

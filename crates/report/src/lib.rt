@@ -20,8 +20,7 @@ fn put_comparison(text: &mut [u8], file1: &[u8], file2: &[u8], answer: Answer, r
     ensures { Put (concluded file1.now file2.now answer run)
         text.old text.new 0 result }
 {
-    let refusal = open_session(file1, file2).refusal;
-    if refusal.number != 0 {
+    if open_session(file1, file2).is_err() {
         return 0;
     }
     let sizes = read_sizes(file1);
@@ -40,14 +39,9 @@ pub fn report(file1: &[u8], file2: &[u8], answer: Answer, run: u64, text: &mut [
     if text.len() < TEXT_ROOM {
         return 0;
     }
-    let kind = answer.kind;
-    match kind {
-        Kind::Refused => {
-            let refusal = answer.refusal;
-            put_refusal(text, 0, refusal)
-        }
+    match answer.kind {
+        Kind::Refused => put_refusal(text, 0, answer.refusal),
         Kind::Spent => 0,
-        Kind::Equivalent => put_comparison(text, file1, file2, answer, run),
-        Kind::Differs => put_comparison(text, file1, file2, answer, run),
+        Kind::Equivalent | Kind::Differs => put_comparison(text, file1, file2, answer, run),
     }
 }

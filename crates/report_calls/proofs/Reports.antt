@@ -1,10 +1,11 @@
 -- The contract of the call on reports, by the case: the layout is wrong, the answer is of no kind, or the text is written. By the laws of tests.
 use mathlib.Core.Bool.{true, false}
 use mathlib.Core.List.{List, [], ◌∷◌}
-use mathlib.Core.Path.{◌≡◌, sym, ◌∙◌, ap}
+use mathlib.Core.Path.{◌≡◌, refl, sym, ◌∙◌, ap}
 use Prim.Native.Nat.{ℕ, ◌≤◌, ◌<◌}
 use native.Mathlib.Decide.{ℕ_discrete}
-use lib.ListN.{length}
+use native.Mathlib.Omega.{arith}
+use lib.ListN.{length, set}
 use borrow.Author.Tests.{eq-eqb, ne_eqb, lt-leb, le-leb}
 use Rattle.layouts.specs.AnswerWords.{answer_fits, answer_from}
 use Rattle.layouts.specs.Lengths.{answer_length}
@@ -21,6 +22,12 @@ text_short a t o l =
       | yes e ↦ rw (eq-eqb (length a) answer_length e, lt-leb text_room (length t) l)
       | no n ↦ rw (ne_eqb (length a) answer_length n)
     ]
+
+-- a slice of one word, written
+pub one-written : (o : List ℕ) (v : ℕ) → length o ≡ report_length → set o 0 v ≡ v ∷ []
+one-written [] v e = absurd (omega (arith, e))
+one-written (x ∷ []) v e = refl
+one-written (x ∷ y ∷ o) v e = absurd (omega (arith, e))
 
 module _ (f₁ f₂ a : List ℕ) (n : ℕ) (t o : List ℕ) where
   report_wrong : report_fits a t o ≡ false → ReportCall f₁ f₂ a n t o 0 t o

@@ -3,9 +3,8 @@
 
 ghost use Rattle.report_calls.specs.ReportCalls.{ReportCall};
 
-use answer_words::{ANSWER_LENGTH, answer_fits, answer_from};
+use answer_words::{ANSWER_LENGTH, answer_given};
 use report::{TEXT_ROOM, report};
-use slices::copy_front;
 
 // The words of the answer: the length of the text.
 const REPORT_LENGTH: usize = 1;
@@ -33,12 +32,9 @@ pub fn report_call(
     if out.len() != REPORT_LENGTH {
         return 0;
     }
-    if !answer_fits(answer) {
-        copy_front(&[0], out, REPORT_LENGTH);
-        return 1;
-    }
-    let given = answer_from(answer);
-    let n = report(file1, file2, given, run, text) as u64;
-    copy_front(&[n], out, REPORT_LENGTH);
+    out[0] = match answer_given(answer) {
+        Some(given) => report(file1, file2, given, run, text) as u64,
+        None => 0,
+    };
     1
 }

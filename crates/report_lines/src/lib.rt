@@ -32,9 +32,7 @@ pub fn put_grid(text: &mut [u8], at: usize, file: &[u8]) -> usize
     let z = read_sizes(file);
     let d = z.d as usize;
     let grid = grid_of(z);
-    let axes = grid.axes;
-    let size = [grid.size];
-    put_halves(text, at, b"grid", &axes[..d], b" =", &size)
+    put_halves(text, at, b"grid", &grid.axes[..d], b" =", &[grid.size])
 }
 
 // The line of a difference on files of these sizes: the values that the words of the vector give to the d inputs, and
@@ -45,11 +43,9 @@ fn put_difference(text: &mut [u8], at: usize, sizes: Sizes, answer: Answer) -> u
     ensures { Put (shown_text Kind.Differs sizes answer) text.old text.new at result }
 {
     let d = sizes.d as usize;
-    let widths = sizes.widths;
-    let vector = answer.vector;
     let outputs = [answer.output1, answer.output2];
     let values = put_bytes(text, at, b"differ");
-    let sign = put_values(text, values, &widths[..d], &vector);
+    let sign = put_values(text, values, &sizes.widths[..d], &answer.vector);
     put_words(text, sign, b" :", &outputs, b"\n")
 }
 
@@ -59,10 +55,8 @@ pub fn put_verdict(text: &mut [u8], at: usize, sizes: Sizes, answer: Answer) -> 
     requires room_for { RoomFor (shown_text answer.kind sizes answer) text.old at }
     ensures { Put (shown_text answer.kind sizes answer) text.old text.new at result }
 {
-    let kind = answer.kind;
-    match kind {
-        Kind::Refused => at,
-        Kind::Spent => at,
+    match answer.kind {
+        Kind::Refused | Kind::Spent => at,
         Kind::Equivalent => put_bytes(text, at, b"equivalent\n"),
         Kind::Differs => put_difference(text, at, sizes, answer),
     }
@@ -73,6 +67,5 @@ pub fn put_run(text: &mut [u8], at: usize, run: u64) -> usize
     requires { RoomFor (run_line run) text.old at }
     ensures { Put (run_line run) text.old text.new at result }
 {
-    let ns = [run];
-    put_words(text, at, b"run", &ns, b"\n")
+    put_words(text, at, b"run", &[run], b"\n")
 }

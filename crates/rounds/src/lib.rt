@@ -8,53 +8,45 @@ ghost use Rattle.words.specs.Words.{word};
 ghost use Rattle.rounds.specs.Passes.{factor, rounded, passed};
 
 // here + below or here − below, modulo 2^64.
-fn join(here: u64, below: u64, sum: bool) -> u64
-    ensures { result ≡ word (pos here +ℤ factor sum *ℤ pos below) }
+fn join<const SUM: bool>(here: u64, below: u64) -> u64
+    ensures { result ≡ word (pos here +ℤ factor SUM *ℤ pos below) }
 {
-    if sum {
-        std::num::wrapping_add_u64(here, below)
+    if SUM {
+        here.wrapping_add(below)
     } else {
-        std::num::wrapping_sub_u64(here, below)
+        here.wrapping_sub(below)
     }
 }
 
 // One round: each cell from `from` on is joined with the cell w before it. The last cell is first, so that each meets
 // its neighbour's old value.
-fn round(cells: &mut [u64], from: usize, w: usize, sum: bool)
+fn round<const SUM: bool>(cells: &mut [u64], from: usize, w: usize)
     requires { w ≤ from }
-    ensures { cells.new ≡ rounded (factor sum) w from cells.old }
+    ensures { cells.new ≡ rounded (factor SUM) w from cells.old }
 {
-    let mut q = cells.len();
-    while from < q {
-        q -= 1;
-        let here = cells[q];
-        let below = cells[q - w];
-        cells[q] = join(here, below, sum);
+    for q in (from..cells.len()).rev() {
+        cells[q] = join::<SUM>(cells[q], cells[q - w]);
     }
 }
 
 // The lines of one block: u layers of w cells.
-fn block(cells: &mut [u64], u: usize, w: usize, sum: bool)
+fn block<const SUM: bool>(cells: &mut [u64], u: usize, w: usize)
     requires { (0 < length cells.old) × (length cells.old ≡ u * w) }
-    ensures { cells.new ≡ passed (factor sum) u w cells.old }
+    ensures { cells.new ≡ passed (factor SUM) u w cells.old }
 {
-    let mut r = 1;
-    while r < u {
-        round(cells, r * w, w, sum);
-        r += 1;
+    for r in 1..u {
+        round::<SUM>(cells, r * w, w);
     }
 }
 
 // All lines of an axis u with the stride w, block by block: entry k of each becomes its k-fold sum or difference.
-pub fn pass(cells: &mut [u64], u: usize, w: usize, sum: bool)
+pub fn pass<const SUM: bool>(cells: &mut [u64], u: usize, w: usize)
     requires { (0 < length cells.old) × (length cells.old % (u * w) ≡ 0) }
-    ensures { cells.new ≡ passed (factor sum) u w cells.old }
+    ensures { cells.new ≡ passed (factor SUM) u w cells.old }
 {
     let one = u * w;
-    let mut at = 0;
-    while at < cells.len() {
-        let end = at + one;
-        block(&mut cells[at..end], u, w, sum);
-        at = end;
+    for b in 0..cells.len() / one {
+        let at = b * one;
+        block::<SUM>(&mut cells[at..at + one], u, w);
     }
 }

@@ -15,10 +15,8 @@ pub fn set_column(rows: &mut [u64], l: usize, v: [u64; INPUTS], w: usize)
     requires { (l < w) × (w * max_inputs ≤ length rows.old) }
     ensures { Column w rows.old rows.new l v }
 {
-    let mut i = 0;
-    while i < INPUTS {
+    for i in 0..INPUTS {
         rows[w * i + l] = v[i];
-        i += 1;
     }
 }
 
@@ -36,12 +34,10 @@ pub fn first_unequal(
     requires { HasRow w rows1.now a × HasRow w rows2.now b × (live ≤ w) }
     ensures { result ≡ first (unequal w m rows1.now a rows2.now b) 0 live }
 {
-    let mut l = 0;
-    while l < live {
+    for l in 0..live {
         if cut(rows1[w * a + l], m) != cut(rows2[w * b + l], m) {
             return l;
         }
-        l += 1;
     }
-    l
+    live
 }

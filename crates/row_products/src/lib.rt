@@ -4,21 +4,20 @@
 ghost use Rattle.rows.specs.Rows.{Written, Operands};
 ghost use Rattle.row_products.specs.Products.{row_products, row_low_products};
 
-use rows::row;
+use rows::zip_rows;
 use words::wrapping_mul;
 
-// Row k becomes the product of the earlier rows a and b modulo 2^64. At this width the machine multiplies one lane at
-// a time.
+// Row k becomes the product of the earlier rows a and b modulo 2^64.
 pub fn multiply_rows(rows: &mut [u64], k: usize, a: usize, b: usize, w: usize)
     requires { Operands w rows.old k a b }
     ensures { Written w rows.old rows.new k (row_products w rows.old a b) }
 {
-    let mut l = 0;
-    while l < w {
+    // Not zip_rows: with it the operands are read into single words before the product is chosen, and of 8 lanes the
+    // low halves are then multiplied one at a time: half as many instructions more.
+    for l in 0..w {
         let x = rows[w * a + l];
         let y = rows[w * b + l];
         rows[w * k + l] = wrapping_mul(x, y);
-        l += 1;
     }
 }
 
@@ -28,11 +27,5 @@ pub fn multiply_low_rows(rows: &mut [u64], k: usize, a: usize, b: usize, w: usiz
     requires { Operands w rows.old k a b }
     ensures { Written w rows.old rows.new k (row_low_products w rows.old a b) }
 {
-    let x = row(rows, a, w);
-    let y = row(rows, b, w);
-    let mut l = 0;
-    while l < w {
-        rows[w * k + l] = (x[l] % 4294967296) * (y[l] % 4294967296);
-        l += 1;
-    }
+    zip_rows(rows, k, a, b, w, |x, y| (x % 4294967296) * (y % 4294967296));
 }

@@ -4,6 +4,7 @@
 --   HasRow w ws k                row k lies within the list
 --   OthersKept w before after k  every row but row k is as before
 --   Written w before after k f   only row k was written: its lane l is f l, and every other row is as before
+--   Zipped P w before after k a b  only row k was written: P holds of lane l of the rows a and b as they were, and of lane l of row k
 --   Operands w ws k a b          rows a and b stand before row k, and row k is a row of at most max_lanes lanes
 use Rattle.std.specs.Prelude.{◌≡◌, List, ℕ, ◌+◌, ◌*◌, ◌≤◌, ◌<◌, length, get_or}
 
@@ -28,3 +29,7 @@ pub record Operands (w : ℕ) (ws : List ℕ) (k a b : ℕ) : Type 0 where
   pub right : b < k
   pub lanes : w ≤ max_lanes
   pub room : HasRow w ws k
+
+pub record Zipped (P : ℕ → ℕ → ℕ → Type 0) (w : ℕ) (before after : List ℕ) (k a b : ℕ) : Type 0 where
+  pub row : (l : ℕ) → l < w → P (lane w before a l) (lane w before b l) (lane w after k l)
+  pub others : OthersKept w before after k

@@ -3,7 +3,7 @@
 #![tactic(auto)]
 
 ghost use Rattle.std.specs.Prelude.{◌≡◌, ℕ, ◌≤◌, ◌<◌, get_or};
-ghost use Rattle.rows.specs.Rows.{max_lanes, lane, HasRow, Written};
+ghost use Rattle.rows.specs.Rows.{max_lanes, lane, HasRow, Written, Operands, Zipped};
 
 // The most lanes of a row.
 pub const LANES: usize = 16;
@@ -14,10 +14,8 @@ pub fn row(rows: &[u64], k: usize, w: usize) -> [u64; LANES]
     ensures { (l : ℕ) → l < w → get_or result l 0 ≡ lane w rows.now k l }
 {
     let mut x = [0u64; LANES];
-    let mut l = 0;
-    while l < w {
+    for l in 0..w {
         x[l] = rows[w * k + l];
-        l += 1;
     }
     x
 }
@@ -27,10 +25,8 @@ pub fn fill_row(rows: &mut [u64], k: usize, x: u64, w: usize)
     requires { HasRow w rows.old k }
     ensures { Written w rows.old rows.new k (λ l. x) }
 {
-    let mut l = 0;
-    while l < w {
+    for l in 0..w {
         rows[w * k + l] = x;
-        l += 1;
     }
 }
 
@@ -41,9 +37,28 @@ pub fn copy_row(source: &[u64], i: usize, rows: &mut [u64], k: usize, w: usize)
     ensures { Written w rows.old rows.new k (lane w source.now i) }
 {
     let x = row(source, i, w);
-    let mut l = 0;
-    while l < w {
+    for l in 0..w {
         rows[w * k + l] = x[l];
-        l += 1;
+    }
+}
+
+// Row k becomes f of the earlier rows a and b, lane by lane. The operands are copied first: so the machine does several
+// lanes at a time.
+pub fn zip_rows<F: Fn(u64, u64) -> u64>(
+    rows: &mut [u64],
+    k: usize,
+    a: usize,
+    b: usize,
+    w: usize,
+    f: F,
+)
+    requires operands { Operands w rows.old k a b }
+    requires always_callable { F.IsAlwaysCallable f }
+    ensures { Zipped (F.post f) w rows.old rows.new k a b }
+{
+    let x = row(rows, a, w);
+    let y = row(rows, b, w);
+    for l in 0..w {
+        rows[w * k + l] = f(x[l], y[l]);
     }
 }

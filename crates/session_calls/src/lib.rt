@@ -1,15 +1,15 @@
-// The calls on sessions, in words. A session is words: m, d, the width bytes, position and mark. Where it has
-// another length, a size does not fit a byte or the mark is not 0 to 2, continuing returns 0, with nothing touched.
-// Opening takes any words of that length and overwrites them.
+// The calls on sessions, in words. Each returns 1 where its layout is right, and 0, with nothing touched, where it is
+// not. A session is words: m, d, the width bytes, position and mark. Where it has another length, a size does not fit a
+// byte or the mark is not 0 to 2, it is none to continuing. Opening takes any words of that length and overwrites them.
 #![tactic(auto)]
 
 ghost use Rattle.session_calls.specs.SessionCalls.{OpenCall, ContinueCall};
 
 use answer_words::{ANSWER_LENGTH, put_answer};
 use continuing::continue_session;
-use opening::open_session;
+use opening::{no_session, open_session};
 use refusal_words::{REFUSAL_LENGTH, put_refusal};
-use session_words::{SESSION_LENGTH, put_session, session_fits, session_from};
+use session_words::{SESSION_LENGTH, put_session, session_given};
 
 // Opens a session on two files: session gets the session, and out the refusal.
 pub fn open_call(file1: &[u8], file2: &[u8], session: &mut [u64], out: &mut [u64]) -> u32
@@ -22,11 +22,16 @@ pub fn open_call(file1: &[u8], file2: &[u8], session: &mut [u64], out: &mut [u64
     if out.len() != REFUSAL_LENGTH {
         return 0;
     }
-    let o = open_session(file1, file2);
-    let fresh = o.session;
-    let r = o.refusal;
-    put_session(session, fresh);
-    put_refusal(out, r);
+    match open_session(file1, file2) {
+        Ok(opened) => {
+            put_session(session, opened);
+            put_refusal(out, Ok(()));
+        }
+        Err(refusal) => {
+            put_session(session, no_session());
+            put_refusal(out, Err(refusal));
+        }
+    }
     1
 }
 
@@ -48,14 +53,11 @@ pub fn continue_call(
     if answer.len() != ANSWER_LENGTH {
         return 0;
     }
-    if !session_fits(session) {
+    let Some(given) = session_given(session) else {
         return 0;
-    }
-    let given = session_from(session);
-    let c = continue_session(file1, file2, given, budget, scratch);
-    let next = c.session;
-    let a = c.answer;
-    put_session(session, next);
-    put_answer(answer, a);
+    };
+    let next = continue_session(file1, file2, given, budget, scratch);
+    put_session(session, next.session);
+    put_answer(answer, next.answer);
     1
 }

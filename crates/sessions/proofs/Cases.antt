@@ -1,12 +1,12 @@
 -- The cases of a continue call: refused or accepted, and of an accepted one by the place that the search came to. Assumes nothing.
 use mathlib.Core.Path.{◌≡◌, refl}
-use mathlib.Core.Bool.{Bool, true, false, not, cond}
+use mathlib.Core.Bool.{true, false, not}
 use mathlib.Core.List.{List, ◌++◌}
 use Prim.Native.Nat.{ℕ, ◌+◌, ◌-◌, ◌<◌, ◌≤◌, min}
 use native.Mathlib.Omega.{arith}
 use lib.Dec.{leb, ltb, eqb}
 use lib.ListN.{length, drop, replicate}
-use borrow.Author.Tests.{lt-ltb, le-ltb, le-leb, lt-leb, ltb-true, ltb-false, not-false}
+use borrow.Author.Tests.{eq-eqb, ne_eqb, lt-ltb, le-ltb, le-leb, lt-leb, ltb-true, ltb-false, not-false}
 use Rattle.engine.specs.Engine.{outputs_differ, larger_count}
 use Rattle.evaluate.specs.Evaluate.{short_scratch}
 use Rattle.fields.specs.File.{sizes_of}
@@ -14,7 +14,7 @@ use Rattle.grid.specs.Grid.{grid_size, grid_vector}
 use Rattle.ranges.specs.Search.{first}
 use Rattle.ranges.proofs.Search.{cond_each}
 use Rattle.sizes.specs.Sizes.{refused_by, is_refusal}
-use Rattle.sessions.specs.Session.{same_sizes, pair_refusal, misplaced, is_closed, state_refusal, files_refusal, room_refusal, continue_refusal, refused_answer, plain_answer, differs_answer, moved_to, progress, advanced, continued, continued_scratch}
+use Rattle.sessions.specs.Session.{same_sizes, pair_refusal, misplaced, is_closed, state_refusal, room_refusal, continue_refusal, refused_answer, plain_answer, differs_answer, moved_to, progress, advanced, continued, continued_scratch}
 use Rattle.sessions.specs.declared.Answer.{Answer}
 use Rattle.sessions.specs.declared.Continued.{Continued}
 use Rattle.sessions.specs.declared.Mark.{Mark}
@@ -122,26 +122,22 @@ module _ (s₁ s₂ : List ℕ) (σ : Session) (B : ℕ) (scratch : List ℕ) wh
   unfolding continued_scratch
   scratch-accepted e = rw e
 
--- a call's refusal, in the two steps in which it is judged
+-- a call's refusal, by the tests before it
 module _ (s₁ s₂ : List ℕ) (σ : Session) (B len : ℕ) where
-  pub refused-by-files : is_refusal (files_refusal s₁ s₂ B) ≡ true → continue_refusal s₁ s₂ σ B len ≡ files_refusal s₁ s₂ B
-  unfolding continue_refusal files_refusal
-  refused-by-files r = files (eqb B 0) r
-    where
-      files :
-          (b : Bool) → is_refusal (cond b (refused_by 11) (pair_refusal s₁ s₂)) ≡ true →
-          cond b (refused_by 11)
-          (cond (is_refusal (pair_refusal s₁ s₂)) (pair_refusal s₁ s₂) (room_refusal s₁ s₂ σ len))
-          ≡ cond b (refused_by 11) (pair_refusal s₁ s₂)
-      files true e = refl
-      files false e = rw e
+  pub by_budget : B ≡ 0 → refused_by 11 ≡ continue_refusal s₁ s₂ σ B len
+  unfolding continue_refusal
+  by_budget z = rw (eq-eqb B 0 z)
 
-  pub refused-by-room : is_refusal (files_refusal s₁ s₂ B) ≡ false → continue_refusal s₁ s₂ σ B len ≡ room_refusal s₁ s₂ σ len
-  unfolding continue_refusal files_refusal
-  refused-by-room r =
-      let p₁ = cond_passed (eqb B 0) (refused_by 11) (pair_refusal s₁ s₂) (λ _. refl) r in
-      rw (p₁.0, p₁.1)
+  module _ (some : B ≡ 0 → ⊥) where
+    pub by_files : ((pair_refusal s₁ s₂).number ≡ 0 → ⊥) → pair_refusal s₁ s₂ ≡ continue_refusal s₁ s₂ σ B len
+    unfolding continue_refusal
+    by_files n = rw (ne_eqb B 0 some, ne_eqb _ 0 n)
 
-  pub files-passed : is_refusal (files_refusal s₁ s₂ B) ≡ false → is_refusal (pair_refusal s₁ s₂) ≡ false
-  unfolding files_refusal
-  files-passed r = (cond_passed (eqb B 0) (refused_by 11) (pair_refusal s₁ s₂) (λ _. refl) r).1
+    module _ (free : (pair_refusal s₁ s₂).number ≡ 0) where
+      pub by_room : len < larger_count s₁ s₂ → refused_by 12 ≡ continue_refusal s₁ s₂ σ B len
+      unfolding continue_refusal
+      by_room l = rw (ne_eqb B 0 some, eq-eqb _ 0 free, lt-ltb len _ l)
+
+      pub by_rest : room_refusal s₁ s₂ σ len ≡ continue_refusal s₁ s₂ σ B len
+      unfolding continue_refusal
+      by_rest = rw (ne_eqb B 0 some, eq-eqb _ 0 free)

@@ -17,10 +17,10 @@ use Rattle.file.proofs.Number.{refusal-number}
 use Rattle.file.proofs.Sound.{number_0}
 use Rattle.fields.proofs.Heads.{length-widths}
 use Rattle.ranges.proofs.Search.{every-at, every_of}
-use Rattle.sizes.specs.Sizes.{max_inputs, refused_by, is_refusal}
+use Rattle.sizes.specs.Sizes.{max_inputs, refused_by, accepts, is_refusal}
 use Rattle.sizes.specs.declared.Refusal.{Refusal}
 use Rattle.sizes.specs.declared.Sizes.{Sizes}
-use Rattle.sessions.specs.Session.{same_sizes, pair_refusal, opened}
+use Rattle.sessions.specs.Session.{same_sizes, pair_refusal, no_session, opened}
 
 module _ (s₁ s₂ : List ℕ) where
   pub pair-first : ¬ (file_number s₁ ≡ 0) → pair_refusal s₁ s₂ ≡ refusal_of 1 s₁
@@ -92,3 +92,13 @@ comparable s₁ s₂ pair =
       sound₂ = a₂;
       same = same-equal (sizes_of s₁) (sizes_of s₂) (length-widths s₁) (length-widths s₂) (not-false _ p₃.0);
     }
+
+-- what opening shows where it gives a session, and where it refuses
+module _ (s₁ s₂ : List ℕ) where
+  pub opened-accepts : accepts (opened s₁ s₂).refusal ≡ true → (opened s₁ s₂).refusal ≡ refused_by 0
+  unfolding opened
+  opened-accepts e = pair-taken s₁ s₂ (comparable s₁ s₂ (ap not e))
+
+  pub opened_refused : accepts (opened s₁ s₂).refusal ≡ false → (opened s₁ s₂).session ≡ no_session
+  unfolding opened
+  opened_refused e = rw e

@@ -4,8 +4,7 @@
 --   opened s₁ s₂           what opening answers
 --   misplaced G p mark     102. the position doesn't fit the mark
 --   state_refusal           101, 102, 103
---   files_refusal           what a continue call is refused by before its session is looked at: 11, the files
---   room_refusal            and after: 12, 101, 102, 103
+--   room_refusal            what a continue call is refused by where its budget and its files are accepted: 12, 101, 102, 103
 --   continue_refusal        11, the files, 12, 101, 102, 103
 --   advanced               an accepted call: the session handed back and the answer
 --   continued              what continuing answers: the session handed back and the answer
@@ -27,7 +26,6 @@ use Rattle.sessions.specs.declared.Answer.{Answer}
 use Rattle.sessions.specs.declared.Continued.{Continued}
 use Rattle.sessions.specs.declared.Mark.{Mark}
 use Rattle.sessions.specs.declared.Mark.TheVariants.{Open, Equal, Differ}
-use Rattle.sessions.specs.declared.Opened.{Opened}
 use Rattle.sessions.specs.declared.Kind.{Kind}
 use Rattle.sessions.specs.declared.Kind.TheVariants.{Refused, Spent, Equivalent, Differs}
 use Rattle.sessions.specs.declared.Session.{Session}
@@ -46,6 +44,11 @@ pair_refusal s₁ s₂ =
 -- a session of zeros, marked open
 unfoldable pub no_session : Session
 no_session = record { sizes = record { m = 0; d = 0; widths = replicate max_inputs 0 }; position = 0; mark = Open }
+
+-- what opening answers: the refusal, and the session
+pub record Opened : Type 0 where
+  pub refusal : Refusal
+  pub session : Session
 
 unfoldable pub opened : List ℕ → List ℕ → Opened
 opened s₁ s₂ =
@@ -74,9 +77,6 @@ state_refusal z G σ =
     cond (not (same_sizes σ.sizes z)) (refused_by 101)
     (cond (misplaced G σ.position σ.mark) (refused_by 102)
     (cond (is_closed σ.mark) (refused_by 103) accepted))
-
-unfoldable pub files_refusal : List ℕ → List ℕ → ℕ → Refusal
-files_refusal s₁ s₂ B = cond (eqb B 0) (refused_by 11) (pair_refusal s₁ s₂)
 
 abbrev pub room_refusal : List ℕ → List ℕ → Session → ℕ → Refusal
 room_refusal s₁ s₂ σ len =

@@ -29,7 +29,8 @@ pub enum Kind {
     Differs,
 }
 
-// What a continue call answers. Fields that an answer has no use for are zero.
+// What a continue call answers. Fields that an answer has no use for are zero. It stays a struct of all fields, refusal
+// and kind included: it is read from any words that C hands in, and layouts::answers_as_words gives each back.
 #[derive(Clone, Copy)]
 pub struct Answer {
     pub refusal: Refusal,
@@ -45,11 +46,4 @@ pub struct Answer {
 pub struct Continued {
     pub session: Session,
     pub answer: Answer,
-}
-
-// What opening answers: the refusal, and the session.
-#[derive(Clone, Copy)]
-pub struct Opened {
-    pub refusal: Refusal,
-    pub session: Session,
 }

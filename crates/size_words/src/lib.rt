@@ -1,7 +1,7 @@
 // Sizes as words, read and written: m, d and the width bytes, each of which has to fit a byte.
 #![tactic(auto)]
 
-ghost use Rattle.std.specs.Prelude.{◌≡◌, ◌≤◌, length};
+ghost use Rattle.std.specs.Prelude.{◌≡◌, ◌≤◌, length, if◌then◌else◌, Some, None};
 ghost use Rattle.layouts.specs.Lengths.{sizes_length};
 ghost use Rattle.layouts.specs.SizeWords.{
   size_words,
@@ -25,24 +25,7 @@ pub fn size_bytes(words: &[u64]) -> bool
     requires { sizes_length ≤ length words.now }
     ensures { result ≡ size_bytes words.now }
 {
-    let mut i = 0;
-    while i < SIZES_LENGTH {
-        if 256 <= words[i] {
-            return false;
-        }
-        i += 1;
-    }
-    true
-}
-
-// Whether the words are sizes: their number is right, and each fits a byte.
-pub fn sizes_fit(words: &[u64]) -> bool
-    ensures { result ≡ sizes_fit words.now }
-{
-    if words.len() != SIZES_LENGTH {
-        return false;
-    }
-    size_bytes(words)
+    words[..SIZES_LENGTH].iter().all(|&word| word < 256)
 }
 
 // The sizes that the first words give.
@@ -51,10 +34,8 @@ pub fn sizes_from(words: &[u64]) -> Sizes
     ensures { result ≡ sizes_from words.now }
 {
     let mut widths = [0u8; INPUTS];
-    let mut i = 0;
-    while i < INPUTS {
+    for i in 0..INPUTS {
         widths[i] = words[AT_WIDTHS + i] as u8;
-        i += 1;
     }
     Sizes {
         m: words[0] as u8,
@@ -63,17 +44,33 @@ pub fn sizes_from(words: &[u64]) -> Sizes
     }
 }
 
+// Whether the words are sizes: their number is right, and each fits a byte.
+#[tactic(auto, unfolding(layouts::specs::SizeWords::sizes_fit))]
+pub fn sizes_fit(words: &[u64]) -> bool
+    ensures { result ≡ sizes_fit words.now }
+{
+    words.len() == SIZES_LENGTH && size_bytes(words)
+}
+
+// The sizes that the words give; none where these are no sizes.
+pub fn sizes_given(words: &[u64]) -> Option<Sizes>
+    ensures { result ≡ (if sizes_fit words.now then Some (sizes_from words.now) else None) }
+{
+    if sizes_fit(words) {
+        Some(sizes_from(words))
+    } else {
+        None
+    }
+}
+
 // The sizes go into the first words.
 pub fn put_sizes(out: &mut [u64], z: Sizes)
     requires { sizes_length ≤ length out.old }
     ensures { out.new ≡ overwritten sizes_length (size_words z) out.old }
 {
-    let widths = z.widths;
     out[0] = z.m as u64;
     out[1] = z.d as u64;
-    let mut i = 0;
-    while i < INPUTS {
-        out[AT_WIDTHS + i] = widths[i] as u64;
-        i += 1;
+    for i in 0..INPUTS {
+        out[AT_WIDTHS + i] = z.widths[i] as u64;
     }
 }

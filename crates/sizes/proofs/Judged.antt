@@ -3,7 +3,8 @@ use mathlib.Core.Bool.{Bool, true, false, cond}
 use mathlib.Core.Path.{◌≡◌, refl, ap}
 use Prim.Native.Nat.{ℕ, suc}
 use native.Mathlib.Omega.{arith}
-use Rattle.sizes.specs.Sizes.{bad_output, bad_inputs, bad_widths, Ruled, refused_by, accepted, sizes_refusal}
+use borrow.Author.Tests.{eqb-true}
+use Rattle.sizes.specs.Sizes.{bad_output, bad_inputs, bad_widths, Ruled, refused_by, accepted, accepts, sizes_refusal}
 use Rattle.sizes.specs.declared.Refusal.{Refusal}
 use Rattle.sizes.specs.declared.Sizes.{Sizes}
 use Rattle.sizes.proofs.Ruled.{ruled, output-passes, inputs_pass, widths_pass}
@@ -46,3 +47,7 @@ module _ (z : Sizes) where
       let p3 = passed-test (bad_inputs z) 2 _ p2.1 in
       let p5 = passed-test (bad_widths z) 4 _ p3.1 in
       ruled z p2.0 p3.0 p5.0
+
+  -- sizes that are accepted show nothing
+  pub sizes-accepts : accepts (sizes_refusal z) ≡ true → sizes_refusal z ≡ accepted
+  sizes-accepts e = sizes-accepted (sizes-ruled (eqb-true _ 0 e))

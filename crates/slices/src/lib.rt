@@ -1,4 +1,5 @@
-// Writing the front of a slice: clearing it, and copying over it.
+// Writing the front of a slice: clearing it, and copying over it. Each is one call of the library, under the name that
+// its definition and its edits have.
 #![tactic(auto)]
 
 ghost use Rattle.std.specs.Prelude.{◌≡◌, ◌≤◌, length};
@@ -9,11 +10,7 @@ pub fn clear(slice: &mut [u64], n: usize)
     requires { n ≤ length slice.old }
     ensures { slice.new ≡ cleared n slice.old }
 {
-    let mut i = 0;
-    while i < n {
-        slice[i] = 0;
-        i += 1;
-    }
+    slice[..n].fill(0);
 }
 
 // The first n entries of one slice are copied over those of another.
@@ -21,9 +18,5 @@ pub fn copy_front(from: &[u64], to: &mut [u64], n: usize)
     requires { (n ≤ length from.now) × (n ≤ length to.old) }
     ensures { to.new ≡ overwritten n from.now to.old }
 {
-    let mut i = 0;
-    while i < n {
-        to[i] = from[i];
-        i += 1;
-    }
+    to[..n].copy_from_slice(&from[..n]);
 }

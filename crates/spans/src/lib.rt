@@ -2,7 +2,7 @@
 // stands before and after them in batches.
 #![tactic(auto)]
 
-ghost use Rattle.std.specs.Prelude.{◌≡◌, ◌-◌, ◌≤◌, ◌<◌, max, take};
+ghost use Rattle.std.specs.Prelude.{◌≤◌, ◌<◌, max, take};
 ghost use Rattle.batches.specs.Prepared.{Prepared};
 ghost use Rattle.line_groups.specs.Groups.{Lists};
 ghost use Rattle.places.specs.Places.{size};
@@ -18,21 +18,7 @@ fn first_line(p: u64, u: u64) -> u64
     requires { 0 < u }
     ensures { FirstLine p u result }
 {
-    let line = p / u;
-    if line * u < p {
-        return line + 1;
-    }
-    line
-}
-
-// How many numbers there are from a to before b.
-fn between(a: u64, b: u64) -> u64
-    ensures { result ≡ b - a }
-{
-    if b < a {
-        return 0;
-    }
-    b - a
+    p.div_ceil(u)
 }
 
 // The line from which on lines go together, where those before line `stop` may: the first that starts at place p or
@@ -42,7 +28,7 @@ fn lines_from(p: u64, u: u64, stop: u64, wide: u64) -> u64
     ensures { LinesFrom p u result }
 {
     let first = first_line(p, u);
-    if wide < between(first, stop) {
+    if wide < stop.saturating_sub(first) {
         return first + 1;
     }
     first
@@ -69,19 +55,15 @@ pub fn by_lines(
     ensures { Searched file1.now file2.now (max plan.n1 plan.n2) span.from span.end
         flags.old result flags.new }
 {
-    let d = plan.d;
-    let axes = plan.axes;
-    let u = axes[d - 1];
-    let from = span.from;
-    let end = span.end;
-    let stop = end / u;
+    let u = plan.axes[plan.d - 1];
+    let stop = span.end / u;
     let wide = shape.w as u64;
-    let start = lines_from(from, u, stop, wide);
-    if between(start, stop) < wide {
-        return by_batches(file1, file2, plan, shape, from, end, rows, other);
+    let start = lines_from(span.from, u, stop, wide);
+    if stop.saturating_sub(start) < wide {
+        return by_batches(file1, file2, plan, shape, span.from, span.end, rows, other);
     }
     let head = start * u;
-    let found = by_batches(file1, file2, plan, shape, from, head, rows, other);
+    let found = by_batches(file1, file2, plan, shape, span.from, head, rows, other);
     if found < head {
         return found;
     }
@@ -92,5 +74,5 @@ pub fn by_lines(
     let line = agreed_lines(
         file1, file2, plan, shape, lines, rows, other, list1, list2, flags,
     );
-    by_batches(file1, file2, plan, shape, line * u, end, rows, other)
+    by_batches(file1, file2, plan, shape, line * u, span.end, rows, other)
 }

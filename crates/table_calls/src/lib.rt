@@ -1,12 +1,12 @@
-// The calls on difference tables, in words. Sizes are words: m, d and the width bytes. Where they have another
-// length, or a word does not fit a byte, the call returns 0, with nothing touched.
+// The calls on difference tables, in words. Each returns 1 where its layout is right, and 0, with nothing touched, where
+// it is not. Sizes are words: m, d and the width bytes, of which each fits a byte.
 #![tactic(auto)]
 
 ghost use Rattle.table_calls.specs.TableCalls.{TableCall, TransformCall};
 
 use file_tables::make_table;
 use refusal_words::{REFUSAL_LENGTH, put_refusal};
-use size_words::{sizes_fit, sizes_from};
+use size_words::sizes_given;
 use tables::transform_cells;
 
 // The table of a file: out gets the refusal. Where the call is accepted, the first G table entries become the table,
@@ -18,8 +18,7 @@ pub fn table_call(file: &[u8], scratch: &mut [u64], table: &mut [u64], out: &mut
     if out.len() != REFUSAL_LENGTH {
         return 0;
     }
-    let r = make_table(file, scratch, table);
-    put_refusal(out, r);
+    put_refusal(out, make_table(file, scratch, table));
     1
 }
 
@@ -38,10 +37,9 @@ pub fn transform_call(
     if out.len() != REFUSAL_LENGTH {
         return 0;
     }
-    if !sizes_fit(sizes) {
+    let Some(z) = sizes_given(sizes) else {
         return 0;
-    }
-    let r = transform_cells(sizes_from(sizes), cells, res, sum);
-    put_refusal(out, r);
+    };
+    put_refusal(out, transform_cells(z, cells, res, sum));
     1
 }

@@ -5,12 +5,13 @@
 --   differenced, summed_up the slice that is written, after differencing and after summing
 --   transformed sum       after summing, or else after differencing
 --   CellsCall z cells sum before r after   what the call promises:
---     refusal    the answer is the refusal of the cells, or acceptance
+--     answer     it refuses by the refusal of the cells, or is done
 --     result     the slice that is written, which a refused call leaves untouched
-use Rattle.std.specs.Prelude.{Bool, cond, List, ◌++◌, ◌≡◌, ℕ, ◌^◌, length, take, drop}
+use Rattle.std.specs.Prelude.{Bool, cond, Result, ⊤, List, ◌++◌, ◌≡◌, ℕ, ◌^◌, length, take, drop}
 use Rattle.cells.specs.Cells.{cells_refusal}
 use Rattle.differences.specs.Table.{table_of, given, summed}
 use Rattle.grid.specs.Grid.{axes_of, grid_size}
+use Rattle.sizes.specs.Answered.{answered}
 use Rattle.sizes.specs.Sizes.{accepts}
 use Rattle.sizes.specs.declared.Refusal.{Refusal}
 use Rattle.sizes.specs.declared.Sizes.{Sizes}
@@ -34,6 +35,6 @@ summed_up z table outputs =
 abbrev pub transformed : Bool → Sizes → List ℕ → List ℕ → List ℕ
 transformed sum z cells before = cond sum (summed_up z cells before) (differenced z cells before)
 
-pub record CellsCall (z : Sizes) (cells : List ℕ) (sum : Bool) (before : List ℕ) (r : Refusal) (after : List ℕ) : Type 0 where
-  pub refusal : r ≡ cells_refusal z cells (length before)
+pub record CellsCall (z : Sizes) (cells : List ℕ) (sum : Bool) (before : List ℕ) (r : Result ⊤ Refusal) (after : List ℕ) : Type 0 where
+  pub answer : r ≡ answered (cells_refusal z cells (length before)) tt
   pub result : after ≡ transformed sum z cells before

@@ -5,8 +5,8 @@ use Prim.Native.Nat.{ℕ, ◌+◌, ◌<◌, ◌≤◌}
 use native.Mathlib.Nat.{add_assoc, add-zero, zero-add}
 use native.Mathlib.Numerals.{add-one}
 use native.Mathlib.Omega.{arith}
-use lib.ListN.{length, get_or, take, drop, set, length-append, length-drop, take-append-drop}
-use lib.Seq.{length-take-le, take_all, take_at, drop_at, drop-drop, take-suc, set_split, append_snoc}
+use lib.ListN.{length, take, drop, set, length-append, length-drop, take-append-drop}
+use lib.Seq.{length-take-le, take_at, drop_at, drop-drop, set_split, append_snoc}
 use Rattle.text.specs.Writing.{over, RoomFor, Put, TextWritten}
 
 length_over : (t : List ℕ) (at : ℕ) (x : List ℕ) → RoomFor x t at → length (over t at x) ≡ length t
@@ -50,20 +50,6 @@ put_then {x} {y} {t} {t₁} {t₂} {at} {r₁} {r₂} h p q =
 pub put_one : (t : List ℕ) (at b : ℕ) → at < length t → Put (b ∷ []) t (set t at b) at (at + 1)
 unfolding over
 put_one t at b h = record { next = refl; text = rw (add-one at, append_snoc) (set_split t at b h) }
-
--- the first i bytes, and one more
-pub put_step :
-    (bytes t t₁ : List ℕ) (at i : ℕ) → RoomFor bytes t at → i < length bytes → Put (take i bytes) t t₁ at (at + i)
-    → Put (take (i + 1) bytes) t (set t₁ (at + i) (get_or bytes i 0)) at (at + (i + 1))
-put_step bytes t t₁ at i h l p =
-    let more : take (i + 1) bytes ≡ take i bytes ++ (get_or bytes i 0 ∷ []) = rw (add-one i) (take-suc bytes i 0 l) in
-    let room : RoomFor (take i bytes ++ (get_or bytes i 0 ∷ [])) t at =
-    record { fits = omega (arith, h.fits, ap length more, length-take-le (i + 1) bytes (omega arith)) } in
-    rw (more, ← add_assoc) (put_then room p (put_one t₁ (at + i) (get_or bytes i 0) (omega (arith, (room-second room p).fits))))
-
--- all of them
-pub put_end : (bytes t t₁ : List ℕ) (at i r : ℕ) → length bytes ≤ i → Put (take i bytes) t t₁ at r → Put bytes t t₁ at r
-put_end bytes t t₁ at i r h p = rw (take_all i bytes h) at p
 
 -- what is put at index 0 is at the front
 pub at_front : {t before after : List ℕ} {r : ℕ} → Put t before after 0 r → TextWritten t before after r

@@ -1,11 +1,6 @@
 -- The axes from one on: the size of the grid is a multiple of the size of the grid of its later axes. Assumes nothing.
-use mathlib.Core.Path.{◌≡◌, refl, sym, ◌∙◌, ap, ap₂}
-use mathlib.Core.List.{List, [], ◌∷◌}
-use Prim.Native.Nat.{ℕ, zero, suc, ◌*◌, ◌-◌, ◌%◌, ◌≤◌, ◌<◌}
+use Rattle.std.proofs.Common.{◌≡◌, ℕ, zero, suc, ◌*◌, ◌-◌, ◌%◌, ◌≤◌, ◌<◌, List, [], ◌∷◌, length, get_or, take, drop, refl, sym, ◌∙◌, ap, arith, drop-cons}
 use native.Mathlib.Nat.{one-mul, mul_assoc, mul-mod_left}
-use native.Mathlib.Omega.{arith}
-use lib.ListN.{length, get_or, take, drop}
-use lib.Seq.{drop-cons, length-take-le, get_or-take}
 use Rattle.places.specs.Places.{size}
 
 size-split : (n : ℕ) (us : List ℕ) → size us ≡ size (take n us) * size (drop n us)
@@ -22,10 +17,7 @@ size-multiple us j u vs e =
     ∙ mul-mod_left (size (take j us)) (u * size vs)
 
 -- the axes from that before i on
-pub drop-axis :
-    (axes : List ℕ) (d i : ℕ) → 0 < i → i ≤ d → d ≤ length axes
-    → drop (i - 1) (take d axes) ≡ get_or axes (i - 1) 0 ∷ drop i (take d axes)
-drop-axis axes d i z h l =
+pub drop-axis : (axes : List ℕ) (i : ℕ) → 0 < i → i ≤ length axes → drop (i - 1) axes ≡ get_or axes (i - 1) 0 ∷ drop i axes
+drop-axis axes i z h =
     let n : suc (i - 1) ≡ i = omega arith in
-    drop-cons (take d axes) (i - 1) 0 (omega (arith, length-take-le d axes l))
-    ∙ ap₂ (λ (u j : ℕ). u ∷ drop j (take d axes)) (get_or-take d axes (i - 1) 0 (omega arith)) n
+    drop-cons axes (i - 1) 0 (omega arith) ∙ ap (λ (j : ℕ). get_or axes (i - 1) 0 ∷ drop j axes) n

@@ -17,14 +17,9 @@ pub fn lowest_words(z: Sizes) -> [u64; INPUTS]
     requires { Ruled z }
     ensures { result ≡ padded (low_words z) }
 {
-    let d = z.d as usize;
-    let widths = z.widths;
     let mut lows = [0u64; INPUTS];
-    let mut i = 0;
-    while i < d {
-        let low = lowest_value(format_of(widths[i]));
-        lows[i] = word_of(low);
-        i += 1;
+    for i in 0..z.d as usize {
+        lows[i] = word_of(lowest_value(format_of(z.widths[i])));
     }
     lows
 }
@@ -38,12 +33,9 @@ pub fn vector_at(axes: [u64; INPUTS], lows: [u64; INPUTS], d: usize, p: u64) -> 
 {
     let mut v = lows;
     let mut rest = p;
-    let mut i = d;
-    while 0 < i {
-        i -= 1;
-        let u = axes[i];
-        v[i] = std::num::wrapping_add_u64(lows[i], rest % u);
-        rest = rest / u;
+    for i in (0..d).rev() {
+        v[i] = lows[i].wrapping_add(rest % axes[i]);
+        rest /= axes[i];
     }
     v
 }
@@ -57,15 +49,12 @@ pub fn advance(axes: &[u64], lows: &[u64], d: usize, v: &mut [u64])
     requires placed { Placed lows.now (take d axes.now) v.old }
     ensures { Next lows.now (take d axes.now) v.old v.new }
 {
-    let mut i = d;
-    while 0 < i {
-        i -= 1;
-        let low = lows[i];
-        let x = std::num::wrapping_add_u64(v[i], 1);
-        if std::num::wrapping_sub_u64(x, low) < axes[i] {
+    for i in (0..d).rev() {
+        let x = v[i].wrapping_add(1);
+        if x.wrapping_sub(lows[i]) < axes[i] {
             v[i] = x;
             return;
         }
-        v[i] = low;
+        v[i] = lows[i];
     }
 }

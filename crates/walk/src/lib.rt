@@ -39,16 +39,12 @@ pub fn by_places(file1: &[u8], file2: &[u8], plan: Plan, span: Span, scratch: &m
     ensures { Searched file1.now file2.now (max plan.n1 plan.n2) span.from span.end
         scratch.old result scratch.new }
 {
-    let axes = plan.axes;
-    let lows = plan.lows;
-    let mut v = vector_at(axes, lows, plan.d, span.from);
-    let mut p = span.from;
-    while p < span.end {
+    let mut v = vector_at(plan.axes, plan.lows, plan.d, span.from);
+    for p in span.from..span.end {
         if differ_at(file1, plan.n1, file2, plan.n2, &v, scratch) {
             return p;
         }
-        advance(&axes, &lows, plan.d, &mut v);
-        p += 1;
+        advance(&plan.axes, &plan.lows, plan.d, &mut v);
     }
-    p
+    span.end
 }

@@ -1,5 +1,6 @@
 // Writing bytes, decimal numbers and the values of inputs into a text slice, from an index on. Each function answers
-// the index after what it wrote.
+// the index after what it wrote. By bytes: the slice is lent by C, no memory is taken, and the promise is about the bytes
+// that a definition names (`Put`).
 #![tactic(auto)]
 
 ghost use Rattle.std.specs.Prelude.{pos, [], ◌∷◌, ◌++◌, map, ◌≡◌};
@@ -23,16 +24,14 @@ fn put_byte(text: &mut [u8], at: usize, byte: u8) -> usize
 }
 
 // Writes the bytes.
+#[tactic(auto, unfolding(text::specs::Writing::over))]
 pub fn put_bytes(text: &mut [u8], at: usize, bytes: &[u8]) -> usize
     requires { RoomFor bytes.now text.old at }
     ensures { Put bytes.now text.old text.new at result }
 {
-    let mut i = 0;
-    while i < bytes.len() {
-        text[at + i] = bytes[i];
-        i += 1;
-    }
-    at + i
+    let next = at + bytes.len();
+    text[at..next].copy_from_slice(bytes);
+    next
 }
 
 // Writes the number in decimal: its tenth first, then the last digit.
@@ -85,10 +84,8 @@ pub fn put_values(text: &mut [u8], at: usize, widths: &[u8], ws: &[u64]) -> usiz
         text.old text.new at result }
 {
     let mut next = at;
-    let mut i = 0;
-    while i < widths.len() && i < ws.len() {
+    for i in 0..widths.len().min(ws.len()) {
         next = put_value(text, next, format_of(widths[i]), ws[i]);
-        i += 1;
     }
     next
 }
@@ -99,10 +96,8 @@ fn put_numbers(text: &mut [u8], at: usize, ns: &[u64]) -> usize
     ensures { Put (spaced ns.now) text.old text.new at result }
 {
     let mut next = at;
-    let mut i = 0;
-    while i < ns.len() {
-        next = put_number(text, next, ns[i]);
-        i += 1;
+    for &n in ns {
+        next = put_number(text, next, n);
     }
     next
 }

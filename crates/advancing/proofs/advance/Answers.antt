@@ -1,7 +1,7 @@
 -- `advancing::advance` meets its contract, by the place that the engine came to.
 -- Assumes nothing.
 use mathlib.Core.List.{List}
-use mathlib.Core.Path.{◌≡◌, ◌∙◌, ap, ap₂}
+use mathlib.Core.Path.{◌≡◌, ◌∙◌, ap}
 use Prim.Native.Nat.{ℕ, ◌+◌, ◌-◌, ◌≤◌}
 use native.Mathlib.Omega.{arith}
 use Rattle.engine.specs.Engine.{outputs_differ}
@@ -19,7 +19,7 @@ among s₁ s₂ from count r e =
     let q : from + count - from ≡ count = omega arith in
     e ∙ ap (first (outputs_differ s₁ s₂) from) q
 
-place : (c : After-first_difference-place) → let a = c.args in c.first_difference-place.result ≡ first (outputs_differ a.file1.now a.file2.now) a.session.position c.smaller-count.result
+place : (c : After-first_difference-place) → let a = c.args in c.first_difference-place.result ≡ first (outputs_differ a.file1.now a.file2.now) a.session.position c.min-count.result
 place c = among _ _ _ _ _ c.first_difference-place.ensures.found
 
 -- the place is not before the position
@@ -29,37 +29,21 @@ low c =
     omega (
       arith,
       place c,
-      first-least (outputs_differ a.file1.now a.file2.now) a.session.position c.smaller-count.result,
+      first-least (outputs_differ a.file1.now a.file2.now) a.session.position c.min-count.result,
     )
-
-pub first_difference-place-requires : goal.first_difference-place-requires
-first_difference-place-requires c = record { planned = c.requires.planned; count_bound = omega (arith, c.requires.position_lt_size.0, c.smaller-count.ensures); n2_in_bounds = c.requires.position_lt_size.1 }
 
 pub overflow_sub-place : goal.overflow_sub-place
 overflow_sub-place c = omega (arith, low (goal.at.overflow_sub-place c).After-first_difference-place)
-
-pub differs_answer-answer-requires : goal.differs_answer-answer-requires
-differs_answer-answer-requires c =
-    record {
-      planned = c.requires.planned;
-      place_lt_size = (
-        omega (arith, c.if-place-position.true, c.requires.position_lt_size.0, c.smaller-count.ensures),
-        omega (arith, c.requires.position_lt_size.1, c.first_difference-place.auto.scratch),
-      );
-    }
-
-pub overflow_add-place-then-place-position : goal.overflow_add-place-then-place-position
-overflow_add-place-then-place-position c = omega (arith, (goal.at.overflow_add-place-then-place-position c).Then-place-position)
 
 pub returns-then-place-position : goal.returns-then-place-position
 returns-then-place-position c =
     let a = c.args in
     record {
       result =
-          ap₂ handed c.moved-session.ensures c.differs_answer-answer.ensures.answer
-          ∙ advanced-differs a.file1.now a.file2.now a.session a.budget _ _ _ (plan.vectors c.requires.planned) c.smaller-count.ensures
+          ap (handed _) c.differs_answer.ensures.answer
+          ∙ advanced-differs a.file1.now a.file2.now a.session a.budget _ _ _ (plan.vectors c.requires.planned) c.min-count.ensures
           (place (goal.at.returns-then-place-position c).After-first_difference-place) c.if-place-position.true;
-      kept = c.differs_answer-answer.ensures.kept ∙ c.first_difference-place.ensures.kept;
+      kept = c.differs_answer.ensures.kept ∙ c.first_difference-place.ensures.kept;
     }
 
 pub returns-then-left-budget : goal.returns-then-left-budget
@@ -67,8 +51,8 @@ returns-then-left-budget c =
     let a = c.args in
     record {
       result =
-          ap₂ handed c.moved-session-then-left-budget.ensures c.plain_answer-answer.ensures
-          ∙ advanced-equivalent a.file1.now a.file2.now a.session a.budget _ _ _ (plan.vectors c.requires.planned) c.smaller-count.ensures
+          ap (handed _) c.plain_answer.ensures
+          ∙ advanced-equivalent a.file1.now a.file2.now a.session a.budget _ _ _ (plan.vectors c.requires.planned) c.min-count.ensures
           (place (goal.at.returns-then-left-budget c).After-first_difference-place) c.if-place-position.false c.requires.position_lt_size.0 c.if-left-budget.true;
       kept = c.first_difference-place.ensures.kept;
     }
@@ -78,8 +62,8 @@ returns c =
     let a = c.args in
     record {
       result =
-          ap₂ handed c.moved-session-2.ensures c.plain_answer-answer-2.ensures
-          ∙ advanced-spent a.file1.now a.file2.now a.session a.budget _ _ _ (plan.vectors c.requires.planned) c.smaller-count.ensures
+          ap (handed _) c.plain_answer-2.ensures
+          ∙ advanced-spent a.file1.now a.file2.now a.session a.budget _ _ _ (plan.vectors c.requires.planned) c.min-count.ensures
           (place (goal.at.returns c).After-first_difference-place) c.if-place-position.false c.requires.position_lt_size.0 c.if-left-budget.false;
       kept = c.first_difference-place.ensures.kept;
     }

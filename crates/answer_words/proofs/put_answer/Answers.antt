@@ -5,7 +5,7 @@ use mathlib.Core.Path.{◌≡◌, refl, ◌∙◌, ap}
 use Prim.Native.Nat.{ℕ, ◌-◌}
 use native.Mathlib.Omega.{arith}
 use borrow.Author.Rules.{rules}
-use lib.ListN.{length, take, drop, set, length-set, length-take, length-drop}
+use lib.ListN.{length, take, drop, set, length-drop}
 use lib.Seq.{take_all}
 use Rattle.layouts.specs.AnswerWords.{kind_word, answer_words}
 use Rattle.layouts.specs.Lengths.{at_vector, at_output₁, at_output₂, answer_length}
@@ -43,16 +43,7 @@ written a entry out part k e l p q r =
 whole : (c : Start) → WholeVector c.args.a
 whole c = search rules
 
-pub copy_front-requires-2 : goal.copy_front-requires-2
-copy_front-requires-2 c = (omega (arith, whole (goal.at.copy_front-requires-2 c).Start), simp (length-take, length-drop) (omega (arith, c.copy_front.auto.to, c.requires)))
-
-pub bounds-out-16 : goal.bounds-out-16
-bounds-out-16 c = simp length-set (omega arith)
-
-pub shape_of-out : goal.shape_of-out
-shape_of-out c = simp length-set (search rules)
-
 pub returns : goal.returns
 returns c =
     written c.args.a c.args.out.now _ _ _ (whole (goal.at.returns c).Start) c.requires c.copy_front.ensures c.copy_front-2.ensures
-    c.kind_word-kind.ensures
+    c.kind_word.ensures

@@ -5,8 +5,11 @@ use mathlib.Core.Bool.{Bool}
 use mathlib.Core.List.{List}
 use mathlib.Core.Path.{◌≡◌, refl, sym, ◌∙◌}
 use Prim.Native.Nat.{ℕ, ◌+◌, ◌-◌, ◌≤◌, ◌<◌}
+use native.Mathlib.Decide.{dec_lt}
+use native.Mathlib.Nat.{min-eq_left, min-eq_right}
 use native.Mathlib.Omega.{arith}
 use lib.ListN.{length}
+use Rattle.std.specs.Prelude.{min}
 use Rattle.lanes.specs.Lanes.{LanesOnGrid}
 use Rattle.lanes.proofs.Stepped.{width-most, width-least}
 use Rattle.plan.specs.Comparison.{outputs_differ}
@@ -17,7 +20,7 @@ use Rattle.ranges.proofs.Search.{first-most, first-before, first_end, first_past
 use Rattle.batches.specs.declared.Shape.{Shape}
 use Rattle.batches.proofs.OnGrid.{lowest_on_grid}
 use Rattle.batches.proofs.Tests.{prepared_kept}
-use Rattle.batches.proofs.by_batches.Goals.{Joined-rest-wide, then-rest-wide, else-rest-wide}
+use Rattle.batches.proofs.by_batches.Goals.{After-min-live}
 use Rattle.batches.proofs.by_batches.Invariants.{Passed}
 use Rattle.batches.proofs.by_batches.Goals as goal
 
@@ -60,15 +63,19 @@ module _
             same = k.same ∙ first_past f p (p + l) end (omega arith) short (λ i low high. first-before f p live i low (omega (arith, e)));
           }
 
-batch : (c : Joined-rest-wide) → Batch c.args.shape.w c.loop-p.p c.args.end c.if-rest-wide.live
-batch c =
-    let least = width-least c.loop-p.invariant.prepared.width in
-    elim c.if-rest-wide.branch [
-      | then-rest-wide w ↦
-          let t = c.loop-p-test.true in
-          record { some = omega (arith, w.live-is, t); room = omega (arith, w.if-rest-wide.true, w.live-is); part = omega (arith, w.live-is, t); all = λ few. omega (arith, w.live-is, few) }
-      | else-rest-wide w ↦ record { some = omega (arith, w.live-is); room = omega (arith, w.live-is); part = omega (arith, w.if-rest-wide.false, w.live-is); all = λ few. absurd (omega (arith, w.live-is, few)) }
+batch : (w p end live : ℕ) → 1 ≤ w → p < end → live ≡ min w (end - p) → Batch w p end live
+batch w p end live some below e =
+    elim (dec_lt w (end - p)) [
+      | yes h ↦
+          let q = e ∙ min-eq_left (omega arith) in
+          record { some = omega (arith, q); room = omega (arith, q); part = omega (arith, q); all = λ few. absurd (omega (arith, q)) }
+      | no h ↦
+          let q = e ∙ min-eq_right (omega arith) in
+          record { some = omega (arith, q); room = omega (arith, q); part = omega (arith, q); all = λ few. omega (arith, q) }
     ]
+
+batch-here : (c : After-min-live) → Batch c.args.shape.w c.loop-p.p c.args.end c.min-live.result
+batch-here c = batch _ _ _ _ (omega (arith, width-least c.loop-p.invariant.prepared.width)) c.loop-p-test.true c.min-live.ensures
 
 pub overflow_sub-end : goal.overflow_sub-end
 overflow_sub-end c = c.requires.from_le_end.0
@@ -76,7 +83,7 @@ overflow_sub-end c = c.requires.from_le_end.0
 pub fill_lanes-requires : goal.fill_lanes-requires
 fill_lanes-requires c =
     let k = c.requires.prepared in
-    (omega (arith, plan.inputs k.planned, k.planned.files.sound₁.inputs_high), omega (arith, width-most k.width))
+    ((plan.some_inputs k.planned).1, omega (arith, width-most k.width))
 
 pub loop-p-init : goal.loop-p-init
 loop-p-init c =
@@ -98,10 +105,10 @@ slice_bounds-first_in_batch-end c = sym c.loop-p.invariant.lanes
 pub first_in_batch-l-requires : goal.first_in_batch-l-requires
 first_in_batch-l-requires c =
     let k = c.loop-p.invariant in
-    let b = batch (goal.at.first_in_batch-l-requires c).Joined-rest-wide in record { prepared = k.prepared; live = record { room = omega (arith, k.lanes, width-most k.prepared.width); some = b.some; few = b.room; inside = omega (arith, b.part, k.inside) }; dead_on_grid = λ i l hi dead hl. k.on_grid (b.all (omega (arith, dead, hl))) i l hi hl }
+    let b = batch-here (goal.at.first_in_batch-l-requires c).After-min-live in record { prepared = k.prepared; live = record { room = omega (arith, k.lanes, width-most k.prepared.width); some = b.some; few = b.room; inside = omega (arith, b.part, k.inside) }; dead_on_grid = λ i l hi dead hl. k.on_grid (b.all (omega (arith, dead, hl))) i l hi hl }
 
 pub overflow_add-p : goal.overflow_add-p
-overflow_add-p c = omega (arith, short c.loop-p.invariant _ (batch (goal.at.overflow_add-p c).Joined-rest-wide) c.first_in_batch-l.ensures.found)
+overflow_add-p c = omega (arith, short c.loop-p.invariant _ (batch-here (goal.at.overflow_add-p c).After-min-live) c.first_in_batch-l.ensures.found)
 
 pub shape_of-rows-then-l-live : goal.shape_of-rows-then-l-live
 shape_of-rows-then-l-live c = c.first_in_batch-l.auto.rows ∙ c.loop-p.invariant.long₁
@@ -110,22 +117,22 @@ pub shape_of-other-then-l-live : goal.shape_of-other-then-l-live
 shape_of-other-then-l-live c = c.first_in_batch-l.auto.other ∙ c.loop-p.invariant.long₂
 
 pub returns-then-l-live : goal.returns-then-l-live
-returns-then-l-live c = found c.loop-p.invariant _ (batch (goal.at.returns-then-l-live c).Joined-rest-wide) c.first_in_batch-l.ensures.found c.if-l-live.true
+returns-then-l-live c = found c.loop-p.invariant _ (batch-here (goal.at.returns-then-l-live c).After-min-live) c.first_in_batch-l.ensures.found c.if-l-live.true
 
 pub loop-p-smaller : goal.loop-p-smaller
 loop-p-smaller c =
     omega (
       arith,
       c.loop-p-test.true,
-      (batch (goal.at.loop-p-smaller c).Joined-rest-wide).some,
+      (batch-here (goal.at.loop-p-smaller c).After-min-live).some,
       c.if-l-live.false,
-      short c.loop-p.invariant _ (batch (goal.at.loop-p-smaller c).Joined-rest-wide) c.first_in_batch-l.ensures.found,
+      short c.loop-p.invariant _ (batch-here (goal.at.loop-p-smaller c).After-min-live) c.first_in_batch-l.ensures.found,
     )
 
 pub loop-p-preserved : goal.loop-p-preserved
 loop-p-preserved c =
     let called = c.first_in_batch-l in
-    more c.loop-p.invariant _ (batch (goal.at.loop-p-preserved c).Joined-rest-wide) called.ensures.found _ _ _ called.auto.rows
+    more c.loop-p.invariant _ (batch-here (goal.at.loop-p-preserved c).After-min-live) called.ensures.found _ _ _ called.auto.rows
     called.auto.other called.auto.inputs called.ensures.on_grid c.if-l-live.false
 
 pub shape_of-rows : goal.shape_of-rows

@@ -19,7 +19,6 @@ more :
     Written w inputs inputs' i (λ l. get_or lows i 0) → Filled w d lows inputs₀ inputs' (i + 1)
 more w d lows inputs₀ inputs inputs' i f h e written =
     record {
-      within = omega arith;
       long = e ∙ f.long;
       rows = λ j l hj hl. ⊎_elim
           (λ (same : j ≡ i). rw same (written.row l hl))
@@ -28,7 +27,7 @@ more w d lows inputs₀ inputs inputs' i f h e written =
     }
 
 pub loop-i-init : goal.loop-i-init
-loop-i-init c = record { within = omega arith; long = refl; rows = λ i l h. absurd (omega arith) }
+loop-i-init c = record { long = refl; rows = λ i l h. absurd (omega arith) }
 
 pub fill_row-requires : goal.fill_row-requires
 fill_row-requires c = omega (arith, c.requires.1, c.loop-i.invariant.long, before-row c.args.w c.loop-i.i max_inputs (omega (arith, c.requires.0, c.loop-i-test.true)))

@@ -12,7 +12,7 @@ use Rattle.lanes.proofs.Stepped.{width-most}
 use Rattle.plan.proofs.Numbers as plan
 use Rattle.batches.proofs.OnGrid.{same-grid, lanes_on_grid}
 use Rattle.batches.proofs.Tests.{last₁, last₂, inputs-room, room₁, room₂, shown₁, shown₂, batch_first}
-use Rattle.batches.proofs.first_in_batch.Goals.{After-copy_row, After-run_all, After-set_lanes, After-set_lanes-arg-1}
+use Rattle.batches.proofs.first_in_batch.Goals.{After-copy_row, After-run_all, After-set_lanes}
 use Rattle.batches.proofs.first_in_batch.Goals as goal
 
 -- the lanes are on the grid once they are set, and have rows for the inputs
@@ -36,15 +36,22 @@ copy-shown c l x h reads =
     ap (λ v. v % 2 ^ m) (c.copy_row.ensures.row l h) ∙ shown₁ c.requires.prepared c.run_all.new.rows x l (c.run_all.ensures l x h reads)
 
 pub set_lanes-requires : goal.set_lanes-requires
-set_lanes-requires c = record { d_le_max_inputs = omega (arith, plan.inputs c.requires.prepared.planned, c.requires.prepared.planned.files.sound₁.inputs_high); live = c.requires.live }
+set_lanes-requires c = record { d_le_max_inputs = (plan.some_inputs c.requires.prepared.planned).1; live = c.requires.live }
 
 pub run_all-requires : goal.run_all-requires
 run_all-requires c = record { room = room₁ c.requires.prepared _ (enough (goal.at.run_all-requires c).After-set_lanes); lanes_on_grid = on-grid (goal.at.run_all-requires c).After-set_lanes }
 
-pub overflow_sub-n1 : goal.overflow_sub-n1
-overflow_sub-n1 c =
-    let k = c.requires.prepared in
-    omega (arith, plan.count₁ k.planned, k.planned.files.sound₁.count_low)
+pub overflow_sub-plan : goal.overflow_sub-plan
+overflow_sub-plan c = let h = plan.some_steps c.requires.prepared.planned in omega (arith, h.0, h.1)
+
+pub overflow_sub-plan-then-shape : goal.overflow_sub-plan-then-shape
+overflow_sub-plan-then-shape c = let h = plan.some_steps c.requires.prepared.planned in omega (arith, h.0, h.1)
+
+pub overflow_sub-plan-2 : goal.overflow_sub-plan-2
+overflow_sub-plan-2 c = let h = plan.some_steps c.requires.prepared.planned in omega (arith, h.0, h.1)
+
+pub overflow_sub-plan-3 : goal.overflow_sub-plan-3
+overflow_sub-plan-3 c = let h = plan.some_steps c.requires.prepared.planned in omega (arith, h.0, h.1)
 
 pub copy_row-requires : goal.copy_row-requires
 copy_row-requires c =
@@ -53,11 +60,6 @@ copy_row-requires c =
 
 pub run_all-requires-then-shape : goal.run_all-requires-then-shape
 run_all-requires-then-shape c = let k = c.requires.prepared in record { room = room₂ k _ _ (enough (goal.at.run_all-requires-then-shape c).After-set_lanes) (omega (arith, k.shared c.if-shape.true, c.run_all.auto.rows)); lanes_on_grid = same-grid _ _ _ c.set_lanes.new.inputs k.planned.files.same (on-grid (goal.at.run_all-requires-then-shape c).After-set_lanes) }
-
-pub overflow_sub-n2 : goal.overflow_sub-n2
-overflow_sub-n2 c =
-    let k = c.requires.prepared in
-    omega (arith, plan.count₂ k.planned, k.planned.files.sound₂.count_low)
 
 pub first_unequal-requires : goal.first_unequal-requires
 first_unequal-requires c =
@@ -79,16 +81,6 @@ returns-then-shape c =
 
 pub run_all-requires-2 : goal.run_all-requires-2
 run_all-requires-2 c = let k = c.requires.prepared in record { room = room₂ k _ _ (enough (goal.at.run_all-requires-2 c).After-set_lanes) (k.room₂ c.if-shape.false); lanes_on_grid = same-grid _ _ _ c.set_lanes.new.inputs k.planned.files.same (on-grid (goal.at.run_all-requires-2 c).After-set_lanes) }
-
-pub overflow_sub-n1-2 : goal.overflow_sub-n1-2
-overflow_sub-n1-2 c =
-    let k = c.requires.prepared in
-    omega (arith, plan.count₁ k.planned, k.planned.files.sound₁.count_low)
-
-pub overflow_sub-n2-2 : goal.overflow_sub-n2-2
-overflow_sub-n2-2 c =
-    let k = c.requires.prepared in
-    omega (arith, plan.count₂ k.planned, k.planned.files.sound₂.count_low)
 
 pub first_unequal-requires-2 : goal.first_unequal-requires-2
 first_unequal-requires-2 c =

@@ -28,8 +28,6 @@ module _ (w : ℕ) (lows us : List ℕ) (p live : ℕ) (inputs₀ inputs' v : Li
   more inputs l q h e at here others before after =
       let back : l + 1 - 1 ≡ l = omega arith in
       record {
-        some = omega arith;
-        within = omega arith;
         long = long;
         vector = rw (back, ← at) e;
         whole = whole;
@@ -62,7 +60,7 @@ advance-requires c =
     let k = c.loop-l.invariant in
     let p = c.args.p in
     let lows : (i : ℕ) → get_or c.args.lows i 0 < 2 ^ 64 = λ i. (let f : Fits w64 (get_or c.args.lows i 0) = search rules in f.fits) in
-    let axes : (i : ℕ) → get_or c.args.axes i 0 < 2 ^ 64 = λ i. (let f : Fits w64 (get_or c.args.axes i 0) = search rules in f.fits) in record { arrays = arrays _ _ _ (search rules) (search rules) c.requires.d_le_max_inputs lows axes; d_in_bounds = (omega (arith, c.requires.d_le_max_inputs), omega (arith, c.requires.d_le_max_inputs, k.whole)); placed = record { place = p + (c.loop-l.l - 1); inside = omega (arith, c.requires.live.inside, k.within, k.some, c.loop-l-test.true); shape = k.vector } }
+    let axes : (i : ℕ) → get_or c.args.axes i 0 < 2 ^ 64 = λ i. (let f : Fits w64 (get_or c.args.axes i 0) = search rules in f.fits) in record { arrays = arrays _ _ _ (search rules) (search rules) c.requires.d_le_max_inputs lows axes; d_in_bounds = (omega (arith, c.requires.d_le_max_inputs), omega (arith, c.requires.d_le_max_inputs, k.whole)); placed = record { place = p + (c.loop-l.l - 1); inside = omega (arith, c.requires.live.inside, c.loop-l-test.true); shape = k.vector } }
 
 pub set_column-requires-in-loop-l : goal.set_column-requires-in-loop-l
 set_column-requires-in-loop-l c =
@@ -78,7 +76,7 @@ loop-l-preserved c =
     let p = c.args.p in
     let l = c.loop-l.l in
     more _ _ _ _ _ _ _ _ (c.set_column-in-loop-l.auto.rows ∙ k.long) c.requires.live.few (c.advance.auto.v ∙ k.whole) c.loop-l.inputs l (p + (l - 1) + 1) t
-    (c.advance.ensures (p + (l - 1)) (omega (arith, c.requires.live.inside, t, k.some)) k.vector) (omega (arith, k.some))
+    (c.advance.ensures (p + (l - 1)) (omega (arith, c.requires.live.inside, t)) k.vector) (omega arith)
     c.set_column-in-loop-l.ensures.set c.set_column-in-loop-l.ensures.others k.columns
     (λ i j hl hj. c.set_column-in-loop-l.ensures.others i j hj (λ same. omega (arith, hl, same)) ∙ k.others i j (omega (arith, hl)) hj)
 
@@ -89,6 +87,6 @@ returns c =
     record {
       set = λ i l hi hl. k.columns i l hi (omega (arith, t));
       others =
-          λ i l low hl. k.others i l (omega (arith, low, k.within)) hl
-          ∙ c.set_column.ensures.others i l hl (λ same. omega (arith, low, k.within, k.some, same));
+          λ i l low hl. k.others i l (omega (arith, low)) hl
+          ∙ c.set_column.ensures.others i l hl (λ same. omega (arith, low, same));
     }

@@ -11,8 +11,6 @@ use Rattle.vectors.specs.Vectors.{held_at}
 use Rattle.batches.proofs.set_lanes.Given as goal
 
 pub record Columns (w : ℕ) (lows us : List ℕ) (p live : ℕ) (inputs₀ inputs v : List ℕ) (l : ℕ) : Type 0 where
-  pub some : 1 ≤ l
-  pub within : l ≤ live
   pub long : length inputs ≡ length inputs₀
   pub vector : v ≡ held_at lows us (p + (l - 1))
   pub whole : length v ≡ max_inputs
@@ -21,6 +19,3 @@ pub record Columns (w : ℕ) (lows us : List ℕ) (p live : ℕ) (inputs₀ inpu
 
 abbrev pub invariant-loop-l : goal.invariant-loop-l
 invariant-loop-l l = Columns l.w l.lows (take l.d l.axes) l.p l.live l.initial.inputs l.inputs l.v l.l
-
-abbrev pub decreases-loop-l : goal.decreases-loop-l
-decreases-loop-l l = l.live - l.l

@@ -14,34 +14,34 @@ use Rattle.conclusion.proofs.conclude.Goals as goal
 turn :
     (c : After-continue_session-next) →
     let a = c.args in
-    Turned a.file1.now a.file2.now c.loop.run c.continue_session-next.result
+    Turned a.file1.now a.file2.now c.loop-current.run c.continue_session-next.result
 turn c =
     let files = comparable _ _ (pair-accepted c.args.file1.now c.args.file2.now c.requires.file2_value) in
     rw c.continue_session-next.ensures.answer
-    (turned _ _ c.requires.file2_value _ _ c.loop.invariant.0 _ _ (omega arith)
-    (omega (arith, files.sound₁.count_high, files.sound₂.count_high, c.requires.scratch_len, c.loop.invariant.2)))
+    (turned _ _ c.requires.file2_value _ _ c.loop-current.invariant.0 _ _ (omega arith)
+    (omega (arith, files.sound₁.count_high, files.sound₂.count_high, c.requires.scratch_len, c.loop-current.invariant.2)))
 
 -- the call is one of the program's own
 called :
     (c : After-continue_session-next) →
     let a = c.args in
-    c.continue_session-next.result ≡ answer_to c.loop.current (own_call a.file1.now a.file2.now)
+    c.continue_session-next.result ≡ answer_to c.loop-current.current (own_call a.file1.now a.file2.now)
 unfolding answer_to
-called c = rw (c.loop.invariant.2, c.requires.scratch_len) at c.continue_session-next.ensures.answer
+called c = rw (c.loop-current.invariant.2, c.requires.scratch_len) at c.continue_session-next.ensures.answer
 
-pub loop-init : goal.loop-init
-loop-init c = (rw c.requires.session_value (under_start _ _ c.requires.file2_value), rw c.requires.session_value (trail_start _ _), refl)
+pub loop-current-init : goal.loop-current-init
+loop-current-init c = (rw c.requires.session_value (under_start _ _ c.requires.file2_value), rw c.requires.session_value (trail_start _ _), refl)
 
 pub overflow_add-run : goal.overflow_add-run
 overflow_add-run c = omega (arith, (turn (goal.at.overflow_add-run c).After-continue_session-next).counted)
 
-pub loop-smaller : goal.loop-smaller
-loop-smaller c = let t = (turn (goal.at.loop-smaller c).After-continue_session-next).onward c.in-Open.is in omega (arith, t.0.below, t.1)
+pub loop-current-smaller : goal.loop-current-smaller
+loop-current-smaller c = let t = (turn (goal.at.loop-current-smaller c).After-continue_session-next).onward c.in-Open.is in omega (arith, t.0.below, t.1)
 
-pub loop-preserved : goal.loop-preserved
-loop-preserved c = (((turn (goal.at.loop-preserved c).After-continue_session-next).onward c.in-Open.is).0, trail_step _ _ _ _ c.loop.invariant.1 _ (called (goal.at.loop-preserved c).After-continue_session-next), search rules)
+pub loop-current-preserved : goal.loop-current-preserved
+loop-current-preserved c = (((turn (goal.at.loop-current-preserved c).After-continue_session-next).onward c.in-Open.is).0, trail_step _ _ _ _ c.loop-current.invariant.1 _ (called (goal.at.loop-current-preserved c).After-continue_session-next), search rules)
 
 pub returns-in_default : goal.returns-in_default
 returns-in_default c =
-    trail_end _ _ _ _ c.loop.invariant.1 _ (called (goal.at.returns-in_default c).After-continue_session-next)
+    trail_end _ _ _ _ c.loop-current.invariant.1 _ (called (goal.at.returns-in_default c).After-continue_session-next)
     ((turn (goal.at.returns-in_default c).After-continue_session-next).finished c.in_default.not-Open)

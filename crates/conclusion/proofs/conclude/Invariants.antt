@@ -8,8 +8,8 @@ use Rattle.conclusion.proofs.Trail.{Trail}
 use Rattle.conclusion.proofs.Turn.{Under}
 use Rattle.conclusion.proofs.conclude.Given as goal
 
-abbrev pub invariant-loop : goal.invariant-loop
-invariant-loop l = Under l.file1 l.file2 l.run l.current × Trail l.file1 l.file2 l.run l.current × (length l.scratch ≡ length l.initial.scratch)
+abbrev pub invariant-loop-current : goal.invariant-loop-current
+invariant-loop-current l = Under l.file1 l.file2 l.run l.current × Trail l.file1 l.file2 l.run l.current × (length l.scratch ≡ length l.initial.scratch)
 
-abbrev pub decreases-loop : goal.decreases-loop
-decreases-loop l = stop l.file1 l.file2 - l.run
+abbrev pub decreases-loop-current : goal.decreases-loop-current
+decreases-loop-current l = stop l.file1 l.file2 - l.run

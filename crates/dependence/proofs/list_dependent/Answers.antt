@@ -17,7 +17,6 @@ use Rattle.dependence.proofs.list_dependent.Goals as goal
 none : (s : List ℕ) (n j : ℕ) (flags list : List ℕ) → Gathered s n j flags list flags list 0 0
 none s n j flags list =
     record {
-      within = omega arith;
       few = omega arith;
       long_flags = refl;
       long_list = refl;
@@ -47,7 +46,6 @@ module _
     taken : Gathered s n j flags₀ list₀ (set flags k 1) (set list count k) (count + 1) (k + 1)
     taken =
         record {
-          within = omega arith;
           few = omega (arith, r.few);
           long_flags = simp length-set r.long_flags;
           long_list = simp length-set r.long_list;
@@ -79,7 +77,6 @@ module _
     left : Fixed s j k → Gathered s n j flags₀ list₀ (set flags k 0) list count (k + 1)
     left fixed =
         record {
-          within = omega arith;
           few = omega (arith, r.few);
           long_flags = simp length-set r.long_flags;
           long_list = r.long_list;
@@ -129,5 +126,5 @@ shape_of-list c = c.loop-k.invariant.long_list
 pub returns : goal.returns
 returns c =
     let inv = c.loop-k.invariant in
-    let e : c.loop-k.k ≡ c.args.n = omega (arith, inv.within) in
+    let e : c.loop-k.k ≡ c.args.n = omega arith in
     record { listed = rw (← e) inv.listed; rest = rw (← e) inv.rest; kept = inv.kept }

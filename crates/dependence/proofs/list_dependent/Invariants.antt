@@ -3,13 +3,12 @@
 -- Assumes nothing.
 use mathlib.Core.List.{List}
 use mathlib.Core.Path.{◌≡◌}
-use Prim.Native.Nat.{ℕ, ◌-◌, ◌≤◌, ◌<◌}
+use Prim.Native.Nat.{ℕ, ◌≤◌, ◌<◌}
 use lib.ListN.{length, get_or, drop}
 use Rattle.dependence.specs.Dependence.{Fixed, Listed, Rest}
 use Rattle.dependence.proofs.list_dependent.Given as goal
 
 pub record Gathered (s : List ℕ) (n j : ℕ) (flags₀ list₀ flags list : List ℕ) (count k : ℕ) : Type 0 where
-  pub within : k ≤ n
   pub few : count ≤ k
   pub long_flags : length flags ≡ length flags₀
   pub long_list : length list ≡ length list₀
@@ -20,6 +19,3 @@ pub record Gathered (s : List ℕ) (n j : ℕ) (flags₀ list₀ flags list : Li
 
 abbrev pub invariant-loop-k : goal.invariant-loop-k
 invariant-loop-k l = Gathered l.file l.n l.j l.initial.flags l.initial.list l.flags l.list l.count l.k
-
-abbrev pub decreases-loop-k : goal.decreases-loop-k
-decreases-loop-k l = l.n - l.k

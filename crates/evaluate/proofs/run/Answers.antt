@@ -1,7 +1,7 @@
 -- `evaluate::run` meets its contract. The loop's invariant: the first k scratch entries hold the values of the first k steps, the others are
 -- as at entry.
 -- Assumes nothing.
-use Rattle.std.proofs.Common.{◌≡◌, ℕ, ◌+◌, ◌<◌, List, [], ◌∷◌, ◌++◌, map, length, get_or, drop, set, sym, refl, ap, ◌∙◌, ap₂, arith, length-drop, length-set, drop-drop, take_at}
+use Rattle.std.proofs.Common.{◌≡◌, ℕ, ◌+◌, ◌<◌, ◌≤◌, List, [], ◌∷◌, ◌++◌, map, length, get_or, drop, set, sym, ap, ◌∙◌, ap₂, arith, length-drop, length-set, drop-drop, take_at}
 use lib.ListN.{length-map}
 use Rattle.fields.specs.Steps.{step_at, steps_of}
 use Rattle.fields.proofs.Steps.{steps-at}
@@ -14,7 +14,7 @@ use Rattle.evaluate.specs.Run.{Ready, Running}
 use Rattle.evaluate.proofs.run.Invariants.{Held}
 use Rattle.evaluate.proofs.run.Goals as goal
 
-module _ (s : List ℕ) (n : ℕ) (x scratch₀ scratch : List ℕ) (k : ℕ) (r : Ready s n x scratch₀) (h : Held s n x scratch₀ scratch k) where
+module _ (s : List ℕ) (n : ℕ) (x scratch₀ scratch : List ℕ) (k : ℕ) (r : Ready s n x scratch₀) (within : k ≤ n) (h : Held s n x scratch₀ scratch k) where
   front : length (map word (values (steps_of s) (plain x) k)) ≡ k
   front = rw (length-map, length-values)
 
@@ -22,7 +22,7 @@ module _ (s : List ℕ) (n : ℕ) (x scratch₀ scratch : List ℕ) (k : ℕ) (r
   running =
       record {
         ready = record { sound = r.sound; count = r.count; inputs = r.inputs; room = omega (arith, r.room, h.long) };
-        passed = h.within;
+        passed = within;
         words = rw h.words (take_at _ _ k front);
       }
 
@@ -30,7 +30,7 @@ module _ (s : List ℕ) (n : ℕ) (x scratch₀ scratch : List ℕ) (k : ℕ) (r
       (v : ℕ) → k < n → v ≡ word (step_value (plain x) (values (steps_of s) (plain x) k) (step_at s k)) →
       Held s n x scratch₀ (set scratch k v) (k + 1)
   more v l e =
-      record { within = omega arith; long = rw length-set h.long; words = ap (λ xs. set xs k v) h.words ∙ extended }
+      record { long = rw length-set h.long; words = ap (λ xs. set xs k v) h.words ∙ extended }
     where
       some : 0 < length (drop k scratch₀)
       some = rw length-drop (omega (arith, r.room))
@@ -47,17 +47,8 @@ module _ (s : List ℕ) (n : ℕ) (x scratch₀ scratch : List ℕ) (k : ℕ) (r
           set_front (map word (values (steps_of s) (plain x) k)) (drop k scratch₀) k v front some
           ∙ ap₂ ◌++◌ (sym next) (drop-drop 1 k scratch₀)
 
-pub loop-k-init : goal.loop-k-init
-unfolding values
-loop-k-init c = record { within = omega arith; long = refl; words = refl }
-
-pub step_word-v-requires : goal.step_word-v-requires
-step_word-v-requires c = record { running = running _ _ _ _ _ _ c.requires c.loop-k.invariant; k_lt_n = c.loop-k-test.true }
+pub step_word-requires : goal.step_word-requires
+step_word-requires c = record { running = running _ _ _ _ _ _ c.requires c.loop-k.auto.k-end c.loop-k.invariant; k_lt_n = c.loop-k-test.true }
 
 pub loop-k-preserved : goal.loop-k-preserved
-loop-k-preserved c = more _ _ _ _ _ _ c.requires c.loop-k.invariant _ c.loop-k-test.true c.step_word-v.ensures
-
-pub returns : goal.returns
-returns c =
-    let e : c.loop-k.k ≡ c.args.n = omega (arith, c.loop-k.invariant.within) in
-    rw (← e) c.loop-k.invariant.words
+loop-k-preserved c = more _ _ _ _ _ _ c.requires c.loop-k.auto.k-end c.loop-k.invariant _ c.loop-k-test.true c.step_word.ensures

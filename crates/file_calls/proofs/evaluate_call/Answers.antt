@@ -1,21 +1,30 @@
 -- `file_calls::evaluate_call` meets its contract: the answer of `evaluate`, as words, and the scratch slice as that call leaves it.
 -- Assumes nothing.
-use mathlib.Core.Path.{refl, ◌∙◌, ap}
-use borrow.Author.Tests.{eq-eqb, ne_eqb}
+use mathlib.Core.Path.{refl, sym, ◌∙◌, ap}
+use borrow.Author.Tests.{eq-eqb}
+use Rattle.evaluate.proofs.Answers.{told-ok, told-err}
 use Rattle.file_calls.specs.FileCalls.{evaluate_length, evaluate_words}
 use Rattle.layouts.proofs.Written.{all-written}
 use Rattle.file_calls.proofs.evaluate_call.Goals as goal
 
-pub returns-then-out-ne-EVALUATE_LENGTH : goal.returns-then-out-ne-EVALUATE_LENGTH
-returns-then-out-ne-EVALUATE_LENGTH c = let e = ne_eqb _ evaluate_length c.if-out-ne-EVALUATE_LENGTH.true in record { result = rw e; out = rw e; scratch = rw e }
-
-pub returns : goal.returns
-returns c =
+pub returns-in-Ok : goal.returns-in-Ok
+returns-in-Ok c =
     let long = c.if-out-ne-EVALUATE_LENGTH.false in
-    let out = c.args.out.now in
     let e = eq-eqb _ evaluate_length long in
+    let told = told-ok _ _ _ _ (sym c.in-Ok.is ∙ c.evaluate.ensures.answer) in
     record {
       result = rw e;
-      out = rw e (c.copy_front.ensures ∙ all-written evaluate_length _ out refl long ∙ ap evaluate_words c.evaluate-e.ensures.answer);
-      scratch = rw e c.evaluate-e.ensures.scratch;
+      out = rw e (c.copy_front.ensures ∙ all-written evaluate_length _ c.args.out.now refl long ∙ sym (ap evaluate_words told));
+      scratch = rw e c.evaluate.ensures.scratch;
+    }
+
+pub returns-in-Err : goal.returns-in-Err
+returns-in-Err c =
+    let long = c.if-out-ne-EVALUATE_LENGTH.false in
+    let e = eq-eqb _ evaluate_length long in
+    let told = told-err _ _ _ _ (sym c.in-Err.is ∙ c.evaluate.ensures.answer) in
+    record {
+      result = rw e;
+      out = rw e (c.copy_front-in-Err.ensures ∙ all-written evaluate_length _ c.args.out.now refl long ∙ sym (ap evaluate_words told));
+      scratch = rw e c.evaluate.ensures.scratch;
     }

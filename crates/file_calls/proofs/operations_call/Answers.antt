@@ -3,15 +3,12 @@
 use mathlib.Core.Path.{refl, ◌∙◌, ap}
 use mathlib.Core.Logic.{inl, inr}
 use lib.ListN.{length}
-use borrow.Author.Tests.{eq-eqb, ne_eqb}
+use borrow.Author.Tests.{eq-eqb}
 use Rattle.file_calls.specs.FileCalls.{operations_length}
 use Rattle.file_calls.proofs.Answered.{stretch_head, operations-told}
 use Rattle.layouts.proofs.Written.{all-written}
 use Rattle.file_calls.proofs.operations_call.Goals.{then-n-eq0, else-n-eq0}
 use Rattle.file_calls.proofs.operations_call.Goals as goal
-
-pub returns-then-out-ne-OPERATIONS_LENGTH : goal.returns-then-out-ne-OPERATIONS_LENGTH
-returns-then-out-ne-OPERATIONS_LENGTH c = let e = ne_eqb _ operations_length c.if-out-ne-OPERATIONS_LENGTH.true in record { result = rw e; out = rw e }
 
 pub head_of-requires : goal.head_of-requires
 head_of-requires c = stretch_head _ (λ e. c.if-n-eq0.false (ap length c.operations.ensures.contents ∙ e))

@@ -46,7 +46,7 @@ next c =
     more z.m z.d z.widths l.axes l.size l.i l.invariant c.axis-u.result
     c.requires.1 c.loop-i-test.true
     (c.axis-u.ensures.0
-    ∙ ap₂ (λ (f : Format) n. min (2 ^ f.length) n) c.format_of-format.ensures c.bound-most.ensures)
+    ∙ ap₂ (λ (f : Format) n. min (2 ^ f.length) n) c.format_of.ensures c.bound-most.ensures)
 
 pub loop-i-init : goal.loop-i-init
 unfolding size

@@ -2,7 +2,7 @@
 -- nothing.
 use mathlib.Core.Path.{◌≡◌}
 use mathlib.Core.List.{List, map}
-use Prim.Native.Nat.{ℕ, ◌-◌}
+use Prim.Native.Nat.{ℕ}
 use lib.ListN.{take}
 use Rattle.bound.specs.Axes.{axis}
 use Rattle.formats.specs.Bytes.{format_of}
@@ -21,7 +21,4 @@ pub record Sized (m d : ℕ) (widths axes : List ℕ) (size i : ℕ) : Type 0 wh
   pub sized : size ≡ Places.size (map (axis_of m) (take i widths))
 
 abbrev pub invariant-loop-i : goal.invariant-loop-i
-invariant-loop-i l = Sized l.m l.d l.widths l.axes l.size l.i
-
-abbrev pub decreases-loop-i : goal.decreases-loop-i
-decreases-loop-i l = l.d - l.i
+invariant-loop-i l = Sized l.z.m l.z.d l.z.widths l.axes l.size l.i

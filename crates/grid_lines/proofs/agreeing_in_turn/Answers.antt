@@ -26,7 +26,7 @@ both-shown w s₁ s₂ x saved l t same h₁ h₂ = sym h₁ ∙ ap (λ (z : Siz
 axis : (c : Start) → last_axis c.args.plan ≡ get_or (axes_of (sizes_of c.args.file1.now)) (c.args.plan.d - 1) 0
 axis c =
     let k = c.requires.prepared.planned in
-    axis-at k (c.args.plan.d - 1) (omega (arith, plan.inputs k, k.files.sound₁.inputs_low))
+    axis-at k (c.args.plan.d - 1) (omega (arith, (plan.some_inputs k).0))
 
 saved-room : (c : Start) → c.args.shape.w * last_axis c.args.plan ≤ length c.args.other.now
 saved-room c =
@@ -34,39 +34,16 @@ saved-room c =
     let short : last_axis c.args.plan ≤ max_axis = omega (arith, axis c, file-axis-most c.args.file1.now k.planned.files.sound₁ (c.args.plan.d - 1)) in
     omega (arith, mul-le-mul_left c.args.shape.w short, k.saved c.requires.turn_value)
 
-pub overflow_sub-u : goal.overflow_sub-u
-overflow_sub-u c =
-    let k = c.requires.prepared in
-    omega (arith, plan.inputs k.planned, k.planned.files.sound₁.inputs_low)
+pub along_lines-along1-requires : goal.along_lines-along1-requires
+along_lines-along1-requires c = plan.some_inputs c.requires.prepared.planned
 
-pub offset_bounds-axes-d : goal.offset_bounds-axes-d
-offset_bounds-axes-d c =
-    let k = c.requires.prepared in
-    omega (arith, plan.inputs k.planned, k.planned.files.sound₁.inputs_high)
-
-pub bounds-axes-d : goal.bounds-axes-d
-bounds-axes-d c =
-    let k = c.requires.prepared in
-    omega (arith, plan.inputs k.planned, k.planned.files.sound₁.inputs_low, k.planned.files.sound₁.inputs_high)
-
-pub overflow_sub-low : goal.overflow_sub-low
-overflow_sub-low c =
-    let k = c.requires.prepared in
-    omega (arith, plan.inputs k.planned, k.planned.files.sound₁.inputs_low)
-
-pub offset_bounds-lows-d : goal.offset_bounds-lows-d
-offset_bounds-lows-d c =
-    let k = c.requires.prepared in
-    omega (arith, plan.inputs k.planned, k.planned.files.sound₁.inputs_high)
-
-pub bounds-lows-d : goal.bounds-lows-d
-bounds-lows-d c =
-    let k = c.requires.prepared in
-    omega (arith, plan.inputs k.planned, k.planned.files.sound₁.inputs_low, k.planned.files.sound₁.inputs_high)
+pub along_lines-along2-requires : goal.along_lines-along2-requires
+along_lines-along2-requires c = plan.some_inputs c.requires.prepared.planned
 
 pub save_outputs-requires : goal.save_outputs-requires
 save_outputs-requires c =
-    record {
+    rw c.along_lines-along1.ensures
+    (record {
       room = room₁ c.requires.prepared _ c.requires.fronts.room;
       along_line = record {
         input_count = plan.inputs c.requires.prepared.planned;
@@ -78,11 +55,14 @@ save_outputs-requires c =
         on_grid = c.requires.fronts.on_grid;
       };
       u_in_bounds = saved-room (goal.at.save_outputs-requires c).Start;
-    }
+    })
 
 pub matching_lanes-requires : goal.matching_lanes-requires
 matching_lanes-requires c =
-    let k = c.requires.prepared in record {
+    let k = c.requires.prepared in
+    let saved-grid = rw c.along_lines-along1.ensures at c.save_outputs.ensures.on_grid in
+    rw c.along_lines-along2.ensures
+    (record {
       room = room₂ k _ _ (omega (arith, c.requires.fronts.room, c.save_outputs.auto.inputs)) (omega (arith, k.shared c.requires.turn_value, c.save_outputs.auto.rows));
       along_line = record {
         input_count = plan.inputs k.planned ∙ ap (λ (z : Sizes). z.d) k.planned.files.same;
@@ -93,10 +73,10 @@ matching_lanes-requires c =
         listed = c.requires.dependents.listed₂;
         rest = c.requires.dependents.rest₂;
         room = omega (arith, c.requires.fronts.room, c.save_outputs.auto.inputs);
-        on_grid = same-grid _ _ _ c.save_outputs.new.inputs k.planned.files.same c.save_outputs.ensures.on_grid;
+        on_grid = same-grid _ _ _ c.save_outputs.new.inputs k.planned.files.same saved-grid;
       };
       u_in_bounds = omega (arith, saved-room (goal.at.matching_lanes-requires c).Start, c.save_outputs.auto.saved);
-    }
+    })
 
 pub shape_of-rows : goal.shape_of-rows
 shape_of-rows c = c.matching_lanes.auto.rows ∙ c.save_outputs.auto.rows
@@ -109,10 +89,12 @@ shape_of-inputs c = c.matching_lanes.auto.inputs ∙ c.save_outputs.auto.inputs
 
 pub returns : goal.returns
 returns c =
+    let saved = rw c.along_lines-along1.ensures at c.save_outputs.ensures in
+    let matching = rw c.along_lines-along2.ensures at c.matching_lanes.ensures in
     record {
-      high = c.matching_lanes.ensures.high;
+      high = matching.high;
       agree =
           λ l t x h below f last. both-shown _ _ _ x c.save_outputs.new.saved l t c.requires.prepared.planned.files.same
-          (c.save_outputs.ensures.outputs l t x (omega (arith, h, c.matching_lanes.ensures.high)) below f last)
-          (c.matching_lanes.ensures.shown l t x h below (λ i g. c.save_outputs.ensures.fronts i l g (omega (arith, h, c.matching_lanes.ensures.high)) ∙ f i g) last);
+          (saved.outputs l t x (omega (arith, h, matching.high)) below f last)
+          (matching.shown l t x h below (λ i g. saved.fronts i l g (omega (arith, h, matching.high)) ∙ f i g) last);
     }

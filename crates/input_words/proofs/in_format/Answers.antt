@@ -30,8 +30,8 @@ overflow_sub-high c =
     let f = sfits_of c.lowest_value-low.type_inv in
     complement_fits c.lowest_value-low.result _ (to_z-of_z w64 c.lowest_value-low.result f) f
 
-pub returns : goal.returns
-returns c =
+pub returns-else-f : goal.returns-else-f
+returns-else-f c =
     ap (λ r. eqb r c.args.w) c.cut.ensures
     ∙ cut-test c.args.w c.args.f.length
     ∙ sym (in_unsigned c.args.f c.args.w c.if-f.false)

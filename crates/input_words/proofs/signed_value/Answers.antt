@@ -1,16 +1,11 @@
--- `input_words::signed_value` meets its contract: a word below 2^63 is its own value (proofs/Casts), and from there on the value is the complement of what
--- the word lacks of 2^64 − 1.
+-- `input_words::signed_value` meets its contract: the machine takes a word as the integer that the definition gives (proofs/Casts).
 -- Assumes nothing.
-use mathlib.Core.Path.{sym, ◌∙◌, ap}
-use Prim.Native.Nat.{◌-◌, ◌^◌}
-use native.Mathlib.Omega.{arith}
-use lib.IntN.{negsuc}
-use Rattle.input_words.proofs.Complement.{cast_complement_fits, cast_complement_read}
-use Rattle.input_words.proofs.InputWords.{signed-negative}
+use mathlib.Core.Path.{◌∙◌, ap}
+use mir.Syntax.{w64}
+use mir.Val.{to_z, of_z}
+use mir.ValLaws.{of_z-to_z}
+use Rattle.input_words.proofs.Casts.{cast_signed-value}
 use Rattle.input_words.proofs.signed_value.Goals as goal
 
-pub overflow_sub-result-2 : goal.overflow_sub-result-2
-overflow_sub-result-2 c = cast_complement_fits (2 ^ 64 - 1 - c.args.w) (omega arith)
-
 pub returns : goal.returns
-returns c = cast_complement_read (2 ^ 64 - 1 - c.args.w) (omega arith) ∙ ap negsuc (omega arith) ∙ sym (signed-negative c.args.w (omega arith) (omega arith))
+returns c = ap (λ r. to_z w64 (of_z w64 r)) c.cast_signed.ensures ∙ ap (to_z w64) (of_z-to_z w64 c.args.w c.ranges.w) ∙ cast_signed-value c.args.w c.ranges.w

@@ -1,16 +1,14 @@
--- `lanes::run_listed` meets its contract: the rows have 16 lanes or 8.
+-- `lanes::run_listed` meets its contract: a step that is not listed has the same value at both vectors.
 -- Assumes nothing.
-use Rattle.lanes.proofs.Stepped.{width_narrow}
+use Rattle.std.proofs.Common.{◌^◌, ◌∙◌, ap, rules}
+use Rattle.fields.specs.File.{sizes_of}
+use Rattle.integers.specs.Modulo.{remainder}
 use Rattle.lanes.proofs.run_listed.Goals as goal
 
-pub listed_rows-requires : goal.listed_rows-requires
-listed_rows-requires c = rw c.if-w-eq-LANES.true at c.requires
-
-pub returns-then-w-eq-LANES : goal.returns-then-w-eq-LANES
-returns-then-w-eq-LANES c = rw c.if-w-eq-LANES.true c.listed_rows.ensures
-
-pub listed_rows-requires-2 : goal.listed_rows-requires-2
-listed_rows-requires-2 c = rw (width_narrow c.requires.room.width c.if-w-eq-LANES.false) at c.requires
-
 pub returns : goal.returns
-returns c = rw (width_narrow c.requires.room.width c.if-w-eq-LANES.false) c.listed_rows-2.ensures
+returns c =
+    λ j l x y b rest beside reads held. c.run_steps.ensures.held l y b reads
+    (λ i h out.
+    held i h
+    ∙ ap (λ z. remainder z (2 ^ (sizes_of c.args.file.now).m))
+    (rest i h (λ p less e. let r = c.run_steps.ensures.chosen p less in out p r.0 less r.1 (search rules)) x y beside))

@@ -18,7 +18,7 @@ use Rattle.datapath.specs.declared.Step.{Step}
 use Rattle.lanes.specs.Lanes.{StandsFor, Held}
 use Rattle.lanes.proofs.Residues.{residue_sum, residue_difference}
 use Rattle.lanes.proofs.Stepped.{width-most}
-use Rattle.lanes.proofs.step_row.Goals.{After-step_at-step}
+use Rattle.lanes.proofs.step_row.Goals.{After-step_at}
 use Rattle.lanes.proofs.step_row.Goals as goal
 
 -- what lane l of row k holds: a number that is the value, or a word that stands for it
@@ -40,39 +40,39 @@ module _ (w : ℕ) (s x rows : List ℕ) (l k : ℕ) where
       (value_at s x a) (value_at s x b) left right)
 
 -- step k is what is read of it
-read : (b : After-step_at-step) (u : Step) → b.step_at-step.result ≡ u → Is b.args.file.now b.args.k u
-read b u q = is _ _ _ (record { sound = b.requires.room.sound; count = b.requires.room.count }) b.requires.k_lt_n _ u b.step_at-step.ensures q
+read : (b : After-step_at) (u : Step) → b.step_at.result ≡ u → Is b.args.file.now b.args.k u
+read b u q = is _ _ _ (record { sound = b.requires.room.sound; count = b.requires.room.count }) b.requires.k_lt_n _ u b.step_at.ensures q
 
 -- row k lies within the rows
-own_row : (b : After-step_at-step) → HasRow b.args.w b.args.rows.now b.args.k
+own_row : (b : After-step_at) → HasRow b.args.w b.args.rows.now b.args.k
 own_row b = omega (arith, b.requires.room.step_rows, before-row b.args.w b.args.k b.args.n b.requires.k_lt_n)
 
 -- what a call on rows l and r asks, where both are before row k
-operands : (b : After-step_at-step) (l r : ℕ) → (l < b.args.k) × (r < b.args.k) → Operands b.args.w b.args.rows.now b.args.k l r
+operands : (b : After-step_at) (l r : ℕ) → (l < b.args.k) × (r < b.args.k) → Operands b.args.w b.args.rows.now b.args.k l r
 operands b l r h = record { left = h.0; right = h.1; lanes = width-most b.requires.room.width; room = own_row b }
 
 pub copy_row-requires : goal.copy_row-requires
 copy_row-requires c =
-    let i = read (goal.at.copy_row-requires c).After-step_at-step _ c.in-Input.is in
-    record { w_le_max_lanes = (width-most c.requires.room.width, omega (arith, c.requires.room.input_rows, before-row c.args.w _ _ i.rule)); has_row = own_row (goal.at.copy_row-requires c).After-step_at-step }
+    let i = read (goal.at.copy_row-requires c).After-step_at _ c.in-Input.is in
+    record { w_le_max_lanes = (width-most c.requires.room.width, omega (arith, c.requires.room.input_rows, before-row c.args.w _ _ i.rule)); has_row = own_row (goal.at.copy_row-requires c).After-step_at }
 
 pub fill_row-requires : goal.fill_row-requires
-fill_row-requires c = own_row (goal.at.fill_row-requires c).After-step_at-step
+fill_row-requires c = own_row (goal.at.fill_row-requires c).After-step_at
 
 pub add_rows-requires : goal.add_rows-requires
-add_rows-requires c = operands (goal.at.add_rows-requires c).After-step_at-step _ _ (read (goal.at.add_rows-requires c).After-step_at-step _ c.in-Add.is).rule
+add_rows-requires c = operands (goal.at.add_rows-requires c).After-step_at _ _ (read (goal.at.add_rows-requires c).After-step_at _ c.in-Add.is).rule
 
 pub subtract_rows-requires : goal.subtract_rows-requires
-subtract_rows-requires c = operands (goal.at.subtract_rows-requires c).After-step_at-step _ _ (read (goal.at.subtract_rows-requires c).After-step_at-step _ c.in-Subtract.is).rule
+subtract_rows-requires c = operands (goal.at.subtract_rows-requires c).After-step_at _ _ (read (goal.at.subtract_rows-requires c).After-step_at _ c.in-Subtract.is).rule
 
 pub product_row-requires : goal.product_row-requires
 product_row-requires c =
-    let i = read (goal.at.product_row-requires c).After-step_at-step _ c.in-Multiply.is in
-    record { m_bound = omega (arith, c.output_length.ensures, c.requires.room.sound.output_high); operands = operands (goal.at.product_row-requires c).After-step_at-step _ _ i.rule }
+    let i = read (goal.at.product_row-requires c).After-step_at _ c.in-Multiply.is in
+    record { m_bound = omega (arith, c.output_length.ensures, c.requires.room.sound.output_high); operands = operands (goal.at.product_row-requires c).After-step_at _ _ i.rule }
 
 pub returns-in-Input : goal.returns-in-Input
 returns-in-Input c =
-    let i = read (goal.at.returns-in-Input c).After-step_at-step _ c.in-Input.is in
+    let i = read (goal.at.returns-in-Input c).After-step_at _ c.in-Input.is in
     record {
       row = λ l x h reads held. held-pos c.args.w _ x c.copy_row.new.rows l _ _ (c.copy_row.ensures.row l h ∙ reads _ i.rule) (value-input _ x _ i.inside _ i.step);
       others = c.copy_row.ensures.others;
@@ -80,7 +80,7 @@ returns-in-Input c =
 
 pub returns-in-Constant : goal.returns-in-Constant
 returns-in-Constant c =
-    let i = read (goal.at.returns-in-Constant c).After-step_at-step _ c.in-Constant.is in
+    let i = read (goal.at.returns-in-Constant c).After-step_at _ c.in-Constant.is in
     record {
       row = λ l x h reads held. held-pos c.args.w _ x c.fill_row.new.rows l _ _ (c.fill_row.ensures.row l h) (value-constant _ x _ i.inside _ i.step);
       others = c.fill_row.ensures.others;
@@ -88,7 +88,7 @@ returns-in-Constant c =
 
 pub returns-in-Add : goal.returns-in-Add
 returns-in-Add c =
-    let i = read (goal.at.returns-in-Add c).After-step_at-step _ c.in-Add.is in
+    let i = read (goal.at.returns-in-Add c).After-step_at _ c.in-Add.is in
     record {
       row =
           λ l x h reads held. held_word c.args.w _ x c.add_rows.new.rows l _ _ (value-sum _ x _ i.inside _ _ i.rule.0 i.rule.1 i.step) _ (c.add_rows.ensures.row l h)
@@ -98,7 +98,7 @@ returns-in-Add c =
 
 pub returns-in-Subtract : goal.returns-in-Subtract
 returns-in-Subtract c =
-    let i = read (goal.at.returns-in-Subtract c).After-step_at-step _ c.in-Subtract.is in
+    let i = read (goal.at.returns-in-Subtract c).After-step_at _ c.in-Subtract.is in
     record {
       row =
           λ l x h reads held. held_word c.args.w _ x c.subtract_rows.new.rows l _ _ (value-difference _ x _ i.inside _ _ i.rule.0 i.rule.1 i.step) _ (c.subtract_rows.ensures.row l h)
@@ -108,7 +108,7 @@ returns-in-Subtract c =
 
 pub returns-in-Multiply : goal.returns-in-Multiply
 returns-in-Multiply c =
-    let i = read (goal.at.returns-in-Multiply c).After-step_at-step _ c.in-Multiply.is in
+    let i = read (goal.at.returns-in-Multiply c).After-step_at _ c.in-Multiply.is in
     record {
       row =
           λ l x h reads held. held-product c.args.w _ x c.product_row.new.rows l _ c.args.rows.now _ _ _ c.output_length.ensures (λ u v. c.product_row.ensures.row l u v h)

@@ -14,6 +14,7 @@ use Rattle.batches.specs.declared.Shape.{Shape}
 use Rattle.grid.specs.Grid.{grid_size}
 use Rattle.batches.proofs.Tests.{output-test, inputs-room, prepared_kept}
 use Rattle.batches.proofs.OnGrid.{held-entry}
+use Rattle.dependence.proofs.Cut.{listed-cut, rest-cut}
 use Rattle.evaluate.specs.Run.{word_output}
 use Rattle.fields.specs.File.{sizes_of}
 use Rattle.lanes.specs.Lanes.{LanesOnGrid}
@@ -31,7 +32,7 @@ use Rattle.grid_lines.proofs.Lines.{axis-at, low-at}
 use Rattle.line_outputs.specs.AlongLines.{Front, Last}
 use Rattle.vectors.specs.Vectors.{low_words, held_at}
 use Rattle.line_groups.proofs.GridLines.{size-lines, last-axis-least, front-most, front-last, line-front, line-last}
-use Rattle.line_groups.proofs.agreed_lines.Goals.{After-list_dependent-c2}
+use Rattle.line_groups.proofs.agreed_lines.Goals.{After-list_dependent-count2}
 use Rattle.line_groups.proofs.agreed_lines.Invariants.{Passed}
 use Rattle.line_groups.proofs.agreed_lines.Goals as goal
 
@@ -52,7 +53,7 @@ module _
     u = last_axis g
 
     some : 1 ≤ d
-    some = omega (arith, plan.inputs k.prepared.planned, k.prepared.planned.files.sound₁.inputs_low)
+    some = (plan.some_inputs k.prepared.planned).0
 
     last-least : 0 < u
     unfolding grid_size
@@ -78,7 +79,7 @@ module _
           ap (λ l. get_or (held_at l us p) i 0) (plan.lowest k.prepared.planned) ∙ held-entry s₁ k.prepared.planned.files.sound₁ us p i few h
 
       few-lines : length (take (d - 1) axes) ≤ max_inputs
-      few-lines = rw length-take (omega (arith, plan.inputs k.prepared.planned, k.prepared.planned.files.sound₁.inputs_high))
+      few-lines = rw length-take (omega (arith, (plan.some_inputs k.prepared.planned).1))
 
       -- the lanes set to the lines of the grid from r on, with the lowest value of the last input, are on the grid
       on-grid : (before inputs' : List ℕ) → LanesSet w g.lows (take (d - 1) axes) r w before inputs' → LanesOnGrid w s₁ inputs'
@@ -105,7 +106,7 @@ module _
           (agrees : (l t : ℕ) (x : List ℕ) → l < a → t < u → Front w d inputs' l x → Last d (last_low g) t x → word_output s₁ x ≡ word_output s₂ x)
         where
           few-axes : length (take d axes) ≤ max_inputs
-          few-axes = rw length-take (omega (arith, plan.inputs k.prepared.planned, k.prepared.planned.files.sound₁.inputs_high))
+          few-axes = rw length-take (omega (arith, (plan.some_inputs k.prepared.planned).1))
 
           -- a place of the block is in the row of lane p / u - r
           place : (p : ℕ) → r * u ≤ p → p < (r + a) * u → outputs_differ s₁ s₂ p ≡ false
@@ -157,35 +158,31 @@ module _
 
 -- the flags past those of the steps are as at entry
 flags-kept :
-    (c : After-list_dependent-c2) →
+    (c : After-list_dependent-count2) →
     let a = c.args in
-    drop (max a.plan.n1 a.plan.n2) c.list_dependent-c2.new.flags ≡ drop (max a.plan.n1 a.plan.n2) a.flags.now
+    drop (max a.plan.n1 a.plan.n2) c.list_dependent-count2.new.flags ≡ drop (max a.plan.n1 a.plan.n2) a.flags.now
 flags-kept c =
     let a = c.args in
-    drop-later _ _ a.plan.n2 _ (le-max_right a.plan.n1 a.plan.n2) c.list_dependent-c2.ensures.kept
-    ∙ drop-later _ _ a.plan.n1 _ (le-max_left a.plan.n1 a.plan.n2) c.list_dependent-c1.ensures.kept
+    drop-later _ _ a.plan.n2 _ (le-max_right a.plan.n1 a.plan.n2) c.list_dependent-count2.ensures.kept
+    ∙ drop-later _ _ a.plan.n1 _ (le-max_left a.plan.n1 a.plan.n2) c.list_dependent-count1.ensures.kept
 
 pub overflow_sub-d : goal.overflow_sub-d
-overflow_sub-d c =
-    let k = c.requires.prepared in
-    omega (arith, plan.inputs k.planned, k.planned.files.sound₁.inputs_low)
+overflow_sub-d c = (plan.some_inputs c.requires.prepared.planned).0
 
-pub list_dependent-c1-requires : goal.list_dependent-c1-requires
-list_dependent-c1-requires c =
+pub list_dependent-count1-requires : goal.list_dependent-count1-requires
+list_dependent-count1-requires c =
     let k = c.requires.prepared.planned in
     record { counted = record { sound = k.files.sound₁; count = plan.count₁ k }; n_in_bounds = (omega (arith, c.requires.lists.flagged, le-max_left c.args.plan.n1 c.args.plan.n2), c.requires.lists.room₁) }
 
 pub overflow_sub-d-2 : goal.overflow_sub-d-2
-overflow_sub-d-2 c =
-    let k = c.requires.prepared in
-    omega (arith, plan.inputs k.planned, k.planned.files.sound₁.inputs_low)
+overflow_sub-d-2 c = (plan.some_inputs c.requires.prepared.planned).0
 
-pub list_dependent-c2-requires : goal.list_dependent-c2-requires
-list_dependent-c2-requires c =
+pub list_dependent-count2-requires : goal.list_dependent-count2-requires
+list_dependent-count2-requires c =
     let k = c.requires.prepared.planned in record {
       counted = record { sound = k.files.sound₂; count = plan.count₂ k };
       n_in_bounds = (
-        omega (arith, c.requires.lists.flagged, le-max_right c.args.plan.n1 c.args.plan.n2, c.list_dependent-c1.auto.flags),
+        omega (arith, c.requires.lists.flagged, le-max_right c.args.plan.n1 c.args.plan.n2, c.list_dependent-count1.auto.flags),
         c.requires.lists.room₂,
       );
     }
@@ -204,8 +201,8 @@ loop-r-init c =
       agree = λ p low high. absurd (omega arith);
     }
 
-pub overflow_sub-stop : goal.overflow_sub-stop
-overflow_sub-stop c = c.loop-r.invariant.high
+pub overflow_sub-span : goal.overflow_sub-span
+overflow_sub-span c = c.loop-r.invariant.high
 
 pub slice_bounds-set_lanes-end : goal.slice_bounds-set_lanes-end
 slice_bounds-set_lanes-end c = sym c.loop-r.invariant.lanes
@@ -227,15 +224,12 @@ set_lanes-requires c =
       };
     }
 
-pub slice_bounds-agreeing_lanes-end : goal.slice_bounds-agreeing_lanes-end
-slice_bounds-agreeing_lanes-end c = sym (c.set_lanes.auto.inputs ∙ c.loop-r.invariant.lanes)
-
 pub agreeing_lanes-l-requires : goal.agreeing_lanes-l-requires
 agreeing_lanes-l-requires c =
     let k = c.loop-r.invariant in
     let grid = on-grid k c.loop-r-test.true _ _ c.set_lanes.ensures in record {
       prepared = k.prepared;
-      dependents = record { listed₁ = c.list_dependent-c1.ensures.listed; listed₂ = c.list_dependent-c2.ensures.listed; rest₁ = c.list_dependent-c1.ensures.rest; rest₂ = c.list_dependent-c2.ensures.rest };
+      dependents = record { listed₁ = listed-cut c.list_dependent-count1.ensures.listed; listed₂ = listed-cut c.list_dependent-count2.ensures.listed; rest₁ = rest-cut _ _ c.list_dependent-count1.ensures.listed c.list_dependent-count1.ensures.rest; rest₂ = rest-cut _ _ c.list_dependent-count2.ensures.listed c.list_dependent-count2.ensures.rest };
       fronts = record {
         room = inputs-room k.prepared c.set_lanes.new.inputs (omega (arith, c.set_lanes.auto.inputs, k.lanes, width-most k.prepared.width));
         on_grid = grid;
@@ -253,7 +247,7 @@ returns-then-l-w c =
       low = omega (arith, k.low);
       high = omega (arith, k.high, t);
       agree = passed k t c.set_lanes.new.inputs c.set_lanes.ensures.set _ c.agreeing_lanes-l.ensures.high c.agreeing_lanes-l.ensures.agree;
-      kept = flags-kept (goal.at.returns-then-l-w c).After-list_dependent-c2;
+      kept = flags-kept (goal.at.returns-then-l-w c).After-list_dependent-count2;
     }
 
 pub overflow_add-r : goal.overflow_add-r
@@ -275,15 +269,15 @@ pub shape_of-other : goal.shape_of-other
 shape_of-other c = c.loop-r.invariant.long₂
 
 pub shape_of-list1 : goal.shape_of-list1
-shape_of-list1 c = c.list_dependent-c1.auto.list
+shape_of-list1 c = c.list_dependent-count1.auto.list
 
 pub shape_of-list2 : goal.shape_of-list2
-shape_of-list2 c = c.list_dependent-c2.auto.list
+shape_of-list2 c = c.list_dependent-count2.auto.list
 
 pub shape_of-flags : goal.shape_of-flags
-shape_of-flags c = c.list_dependent-c2.auto.flags ∙ c.list_dependent-c1.auto.flags
+shape_of-flags c = c.list_dependent-count2.auto.flags ∙ c.list_dependent-count1.auto.flags
 
 pub returns : goal.returns
 returns c =
     let k = c.loop-r.invariant in
-    record { low = k.low; high = k.high; agree = k.agree; kept = flags-kept (goal.at.returns c).After-list_dependent-c2 }
+    record { low = k.low; high = k.high; agree = k.agree; kept = flags-kept (goal.at.returns c).After-list_dependent-count2 }

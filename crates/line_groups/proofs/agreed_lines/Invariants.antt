@@ -27,7 +27,7 @@ pub record Passed (v : Shape) (s₁ s₂ : List ℕ) (g : Plan) (from stop : ℕ
   pub agree : (p : ℕ) → from * last_axis g ≤ p → p < r * last_axis g → outputs_differ s₁ s₂ p ≡ false
 
 abbrev pub invariant-loop-r : goal.invariant-loop-r
-invariant-loop-r l = Passed l.shape l.file1 l.file2 l.plan l.initial.r l.stop l.initial.rows l.initial.other l.rows l.other l.inputs l.r
+invariant-loop-r l = Passed l.shape l.file1 l.file2 l.plan l.initial.r l.span.end l.initial.rows l.initial.other l.rows l.other l.inputs l.r
 
 abbrev pub decreases-loop-r : goal.decreases-loop-r
-decreases-loop-r l = l.stop - l.r
+decreases-loop-r l = l.span.end - l.r

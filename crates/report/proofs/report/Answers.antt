@@ -3,6 +3,7 @@
 -- Assumes nothing.
 use mathlib.Core.Path.{◌≡◌, ap}
 use mathlib.Core.List.{List}
+use mathlib.Core.Logic.{⊎_elim}
 use Prim.Native.Nat.{ℕ, ◌≤◌}
 use native.Mathlib.Omega.{arith}
 use lib.ListN.{length}
@@ -47,10 +48,7 @@ put_refusal-requires c =
     (report_refused _ _ _ _ c.in-Refused.is) (given (goal.at.put_refusal-requires c).Else-text-lt-TEXT_ROOM) c.ranges.run
 
 pub put_comparison-requires : goal.put_comparison-requires
-put_comparison-requires c = fits_in _ _ _ _ _ c.if-text-lt-TEXT_ROOM.false _ (report_equivalent _ _ _ _ c.in-Equivalent.is) (given (goal.at.put_comparison-requires c).Else-text-lt-TEXT_ROOM) c.ranges.run
-
-pub put_comparison-requires-in-Differs : goal.put_comparison-requires-in-Differs
-put_comparison-requires-in-Differs c = fits_in _ _ _ _ _ c.if-text-lt-TEXT_ROOM.false _ (report_differs _ _ _ _ c.in-Differs.is) (given (goal.at.put_comparison-requires-in-Differs c).Else-text-lt-TEXT_ROOM) c.ranges.run
+put_comparison-requires c = fits_in _ _ _ _ _ c.if-text-lt-TEXT_ROOM.false _ (⊎_elim (report_equivalent _ _ _ _) (report_differs _ _ _ _) c.in-Equivalent.is) (given (goal.at.put_comparison-requires c).Else-text-lt-TEXT_ROOM) c.ranges.run
 
 pub returns-in-Refused : goal.returns-in-Refused
 returns-in-Refused c =
@@ -63,9 +61,4 @@ returns-in-Spent c = written _ _ _ _ _ c.if-text-lt-TEXT_ROOM.false _ _ _ (repor
 pub returns-in-Equivalent : goal.returns-in-Equivalent
 returns-in-Equivalent c =
     written _ _ _ _ _ c.if-text-lt-TEXT_ROOM.false _ _ _
-    (report_equivalent _ _ _ _ c.in-Equivalent.is) c.put_comparison.ensures
-
-pub returns-in-Differs : goal.returns-in-Differs
-returns-in-Differs c =
-    written _ _ _ _ _ c.if-text-lt-TEXT_ROOM.false _ _ _
-    (report_differs _ _ _ _ c.in-Differs.is) c.put_comparison-in-Differs.ensures
+    (⊎_elim (report_equivalent _ _ _ _) (report_differs _ _ _ _) c.in-Equivalent.is) c.put_comparison.ensures

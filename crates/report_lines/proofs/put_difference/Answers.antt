@@ -2,7 +2,7 @@
 -- sizes have a width byte for each of the d inputs. Assumes nothing.
 use mathlib.Core.List.{List, [], ◌∷◌, ◌++◌, append_assoc}
 use mathlib.Core.Path.{◌≡◌, sym}
-use Prim.Native.Nat.{ℕ, ◌≤◌}
+use Prim.Native.Nat.{ℕ}
 use native.Mathlib.Omega.{arith}
 use borrow.Author.Rules.{rules}
 use lib.ListN.{length}
@@ -15,14 +15,8 @@ use Rattle.sizes.specs.Sizes.{max_inputs}
 use Rattle.text.specs.Text.{ascii, line_feed, line, spaced_integers, words}
 use Rattle.text.specs.Writing.{RoomFor}
 use Rattle.text.proofs.Over.{room-first, room-second, put_then}
-use Rattle.report_lines.proofs.put_difference.Goals.{After-struct_known-1, Start}
+use Rattle.report_lines.proofs.put_difference.Goals.{Start}
 use Rattle.report_lines.proofs.put_difference.Goals as goal
-
--- there is a width byte for each of the inputs
-each_width : (c : After-struct_known-1) → c.args.sizes.d ≤ length c.args.sizes.widths
-each_width c =
-    let long : length c.args.sizes.widths ≡ max_inputs = search rules in
-    omega (arith, long, c.requires.d_le_max_inputs)
 
 -- the line in its three parts: the word, the values, and what comes from the sign on
 abbrev values : Start → List ℕ
@@ -44,11 +38,11 @@ room-two s = room-first (ascii "differ" ++ values s) (outputs s) (room s)
 pub put_bytes-values-requires : goal.put_bytes-values-requires
 put_bytes-values-requires c = room-first (ascii "differ") (values (goal.at.put_bytes-values-requires c).Start) (room-two (goal.at.put_bytes-values-requires c).Start)
 
-pub slice_bounds-widths-end : goal.slice_bounds-widths-end
-slice_bounds-widths-end c = each_width (goal.at.slice_bounds-widths-end c).After-struct_known-1
-
+-- there is a width byte for each of the inputs
 pub slice_bounds-put_values-end : goal.slice_bounds-put_values-end
-slice_bounds-put_values-end c = sym (length-take-le _ _ (each_width (goal.at.slice_bounds-put_values-end c).After-struct_known-1))
+slice_bounds-put_values-end c =
+    let long : length c.args.sizes.widths ≡ max_inputs = search rules in
+    sym (length-take-le _ _ (omega (arith, long, c.requires.d_le_max_inputs)))
 
 pub put_values-sign-requires : goal.put_values-sign-requires
 put_values-sign-requires c = room-second (room-two (goal.at.put_values-sign-requires c).Start) c.put_bytes-values.ensures

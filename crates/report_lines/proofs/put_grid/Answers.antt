@@ -12,9 +12,6 @@ use Rattle.report_lines.proofs.put_grid.Goals as goal
 pub grid_of-grid-requires : goal.grid_of-grid-requires
 grid_of-grid-requires c = rw c.read_sizes-z.ensures (file-sound _ c.requires.accepted)
 
-pub slice_bounds-axes-end : goal.slice_bounds-axes-end
-slice_bounds-axes-end c = axes-long _ c.requires.accepted _ _ c.read_sizes-z.ensures c.grid_of-grid.ensures
-
 pub slice_bounds-put_halves-end-2 : goal.slice_bounds-put_halves-end-2
 slice_bounds-put_halves-end-2 c = sym (length-take-le _ _ (axes-long _ c.requires.accepted _ _ c.read_sizes-z.ensures c.grid_of-grid.ensures))
 

@@ -1,4 +1,5 @@
 -- `report_lines::put_verdict` meets its contract, by the kind of the answer. Assumes nothing.
+use mathlib.Core.Logic.{⊎_elim}
 use mathlib.Core.Path.{◌≡◌, ap}
 use Rattle.sessions.specs.declared.Kind.{Kind}
 use Rattle.sessions.specs.declared.Kind.TheVariants.{Equivalent, Differs}
@@ -21,11 +22,7 @@ put_difference-requires c =
 
 pub returns-in-Refused : goal.returns-in-Refused
 unfolding shown_text
-returns-in-Refused c = rw c.in-Refused.is (put-start _ _)
-
-pub returns-in-Spent : goal.returns-in-Spent
-unfolding shown_text
-returns-in-Spent c = rw c.in-Spent.is (put-start _ _)
+returns-in-Refused c = ⊎_elim (λ e. rw e (put-start _ _)) (λ e. rw e (put-start _ _)) c.in-Refused.is
 
 pub returns-in-Equivalent : goal.returns-in-Equivalent
 unfolding shown_text equivalent_line

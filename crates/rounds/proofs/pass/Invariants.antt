@@ -1,15 +1,11 @@
--- `rounds::pass` meets its contract. The loop has the whole blocks before `at` passed over and the others as they were.
--- The measure is what is left of the length. Assumes nothing.
-use Rattle.std.proofs.Common.{◌≡◌, ◌-◌, ◌*◌, ◌%◌, ◌≤◌, ◌++◌, length, take, drop}
+-- `rounds::pass` meets its contract. The loop has the b whole blocks before this one passed over and the others as they were.
+-- Assumes nothing.
+use Rattle.std.proofs.Common.{◌≡◌, ◌*◌, ◌++◌, take, drop, not, nat_eq}
 use Rattle.rounds.specs.Passes.{factor, passed}
 use Rattle.rounds.proofs.pass.Given as goal
 
-abbrev pub invariant-loop-at : goal.invariant-loop-at
-invariant-loop-at l =
-    (l.at ≤ length l.initial.cells)
-    × (l.at % (l.u * l.w) ≡ 0)
-    × (length l.cells ≡ length l.initial.cells)
-    × (l.cells ≡ passed (factor l.sum) l.u l.w (take l.at l.initial.cells) ++ drop l.at l.initial.cells)
-
-abbrev pub decreases-loop-at : goal.decreases-loop-at
-decreases-loop-at l = length l.initial.cells - l.at
+abbrev pub invariant-loop-b : goal.invariant-loop-b
+invariant-loop-b g l =
+    l.cells
+    ≡ passed (factor (not (nat_eq g.row.SUM 0))) l.u l.w (take (l.b * (l.u * l.w)) l.initial.cells)
+    ++ drop (l.b * (l.u * l.w)) l.initial.cells

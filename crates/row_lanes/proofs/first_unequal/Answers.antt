@@ -26,19 +26,19 @@ module _
 pub returns-then-cut : goal.returns-then-cut
 returns-then-cut c =
     sym
-    (c.loop-l.invariant.1
+    (c.loop-l.invariant
     ∙ first-here _ _ _ (lanes-differ _ _ _ _ _ _ _ _ _ c.cut.ensures c.cut-in-loop-l.ensures c.if-cut.true))
 
 pub loop-l-preserved : goal.loop-l-preserved
-loop-l-preserved c = (
-  omega arith,
-  c.loop-l.invariant.1
-      ∙ first_step _ _ _ c.loop-l-test.true
-      (lanes-agree _ _ _ _ _ _ _ _ _ c.cut.ensures c.cut-in-loop-l.ensures c.if-cut.false),
-)
+loop-l-preserved c =
+    c.loop-l.invariant
+    ∙ first_step _ _ _ c.loop-l-test.true
+    (lanes-agree _ _ _ _ _ _ _ _ _ c.cut.ensures c.cut-in-loop-l.ensures c.if-cut.false)
 
 pub loop-l-init : goal.loop-l-init
-loop-l-init c = (omega arith, first-start _ _)
+loop-l-init c = first-start _ _
 
 pub returns : goal.returns
-returns c = sym (c.loop-l.invariant.1 ∙ first_end _ _ _ c.loop-l-test.false)
+returns c =
+    let e : c.args.live ≡ c.loop-l.l = omega arith in
+    e ∙ sym (c.loop-l.invariant ∙ first_end _ _ _ c.loop-l-test.false)

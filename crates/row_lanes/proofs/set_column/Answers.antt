@@ -18,18 +18,18 @@ pub loop-i-preserved : goal.loop-i-preserved
 loop-i-preserved c =
     let h = input-row c in
     let apart = before-row c.args.w in
-    (omega arith, put_step c.loop-i.invariant.1 _ (omega arith) (λ j h e. omega (arith, apart j c.loop-i.i h)) refl)
+    put_step c.loop-i.invariant _ (omega arith) (λ j h e. omega (arith, apart j c.loop-i.i h)) refl
 
 pub returns : goal.returns
 returns c =
-    let p = c.loop-i.invariant.1 in
+    let p = c.loop-i.invariant in
     record {
       set = λ j h. p.new j (omega arith);
       others = λ j k h d. p.old _ (λ i t e. d (sym (same-lane _ j k i _ h c.requires.0 e)));
     }
 
 pub loop-i-init : goal.loop-i-init
-loop-i-init c = (omega arith, put-start _ _ _)
+loop-i-init c = put-start _ _ _
 
 pub overflow_mul-rows : goal.overflow_mul-rows
 overflow_mul-rows c = let h = input-row c in search rules

@@ -43,4 +43,4 @@ pub bounds-rows-w-in-loop-l : goal.bounds-rows-w-in-loop-l
 bounds-rows-w-in-loop-l c = let h = right-row c.requires in search rules
 
 pub returns : goal.returns
-returns c = row_end c.loop-l.invariant c.loop-l-test.false
+returns c = row_end _ c.loop-l.invariant c.loop-l-test.false

@@ -14,4 +14,4 @@ pub loop-l-init : goal.loop-l-init
 loop-l-init c = row-start _ _ _ _
 
 pub returns : goal.returns
-returns c = row_end c.loop-l.invariant c.loop-l-test.false
+returns c = row_end _ c.loop-l.invariant c.loop-l-test.false

@@ -11,4 +11,4 @@ pub loop-l-preserved : goal.loop-l-preserved
 loop-l-preserved c = row_step c.loop-l.invariant c.requires c.loop-l-test.true _ refl
 
 pub returns : goal.returns
-returns c = row_end c.loop-l.invariant c.loop-l-test.false
+returns c = row_end _ c.loop-l.invariant c.loop-l-test.false

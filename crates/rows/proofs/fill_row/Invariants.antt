@@ -1,11 +1,8 @@
 -- `rows::fill_row` meets its contract. The loop's invariant: the first l lanes of row k are x, the other entries as at entry.
 -- Assumes nothing.
-use Prim.Native.Nat.{◌-◌}
+use mathlib.Core.Path.{◌≡◌}
 use Rattle.rows.proofs.Writing.{Row}
 use Rattle.rows.proofs.fill_row.Given as goal
 
 abbrev pub invariant-loop-l : goal.invariant-loop-l
-invariant-loop-l l = Row l.w l.initial.rows l.rows l.k (λ i. l.x) l.l
-
-abbrev pub decreases-loop-l : goal.decreases-loop-l
-decreases-loop-l l = l.w - l.l
+invariant-loop-l l = Row l.w l.initial.rows l.rows l.k (λ i v. v ≡ l.x) l.l

@@ -8,10 +8,10 @@ use Rattle.rows.proofs.row.Goals as goal
 pub loop-l-preserved : goal.loop-l-preserved
 loop-l-preserved c =
     let lanes = c.requires.0 in
-    (omega arith, put_step c.loop-l.invariant.1 _ (omega (arith, c.loop-l-test.true)) (λ i h e. omega arith) refl)
+    put_step c.loop-l.invariant _ (omega arith) (λ i h e. omega arith) refl
 
 pub returns : goal.returns
-returns c = λ i h. c.loop-l.invariant.1.new i (omega arith)
+returns c = λ i h. c.loop-l.invariant.new i (omega arith)
 
 pub loop-l-init : goal.loop-l-init
-loop-l-init c = (omega arith, put-start _ _ _)
+loop-l-init c = put-start _ _ _

@@ -32,4 +32,4 @@ widths : (c : Start) → WholeWidths c.args.session.sizes
 widths c = search rules
 
 pub returns : goal.returns
-returns c = written c.args.session c.args.out.now _ _ (widths (goal.at.returns c).Start) c.requires c.put_sizes.ensures c.mark_word-word.ensures
+returns c = written c.args.session c.args.out.now _ _ (widths (goal.at.returns c).Start) c.requires c.put_sizes.ensures c.mark_word.ensures

@@ -14,7 +14,7 @@ use Rattle.plan.proofs.Numbers as plan
 use Rattle.ranges.specs.Search.{first}
 use Rattle.ranges.proofs.Search.{first-before, NoneBelow, first_past, first_part}
 use Rattle.line_groups.proofs.GridLines.{last-axis-least}
-use Rattle.spans.proofs.by_lines.Goals.{Else-between-wide, Start}
+use Rattle.spans.proofs.by_lines.Goals.{Else-saturating_sub-wide, Start}
 use Rattle.spans.proofs.by_lines.Goals as goal
 
 -- a line at most the count of the whole lines before `end` starts at `end` or before it
@@ -32,7 +32,7 @@ passed f from head q end low high inside past none =
 axis-least : (c : Start) → 0 < last_axis c.args.plan
 axis-least c =
     let k = c.requires.prepared.planned in
-    last-axis-least c.args.plan.axes c.args.plan.d (omega (arith, plan.inputs k, k.files.sound₁.inputs_low)) (plan.enough k) c.args.span.from
+    last-axis-least c.args.plan.axes c.args.plan.d (plan.some_inputs k).0 (plan.enough k) c.args.span.from
     (omega (arith, c.requires.from_lt_end))
 
 end_fits : (c : Start) → c.args.span.end < 2 ^ 64
@@ -44,27 +44,21 @@ record Middle (u from end start : ℕ) : Type 0 where
   after : from ≤ start * u
   before : start * u ≤ end
 
-middle : (c : Else-between-wide) → let a = c.args in Middle (last_axis a.plan) a.span.from a.span.end c.lines_from-start.result
+middle : (c : Else-saturating_sub-wide) → let a = c.args in Middle (last_axis a.plan) a.span.from a.span.end c.lines_from-start.result
 middle c =
     let a = c.args in
     let order : c.lines_from-start.result ≤ a.span.end / last_axis a.plan =
-    omega (arith, c.if-between-wide.false, c.between.ensures, width-least c.requires.prepared.width) in
+    omega (arith, c.if-saturating_sub-wide.false, c.saturating_sub.ensures, width-least c.requires.prepared.width) in
     record { order = order; after = c.lines_from-start.ensures.low; before = line-most (last_axis a.plan) a.span.end _ order }
 
 pub overflow_sub-u : goal.overflow_sub-u
-overflow_sub-u c =
-    let k = c.requires.prepared.planned in
-    omega (arith, plan.inputs k, k.files.sound₁.inputs_low)
+overflow_sub-u c = (plan.some_inputs c.requires.prepared.planned).0
 
-pub offset_bounds-axes-d : goal.offset_bounds-axes-d
-offset_bounds-axes-d c =
-    let k = c.requires.prepared.planned in
-    omega (arith, plan.inputs k, k.files.sound₁.inputs_high)
+pub offset_bounds-plan-plan : goal.offset_bounds-plan-plan
+offset_bounds-plan-plan c = let h = plan.some_inputs c.requires.prepared.planned in omega (arith, h.0, h.1)
 
-pub bounds-axes-d : goal.bounds-axes-d
-bounds-axes-d c =
-    let k = c.requires.prepared.planned in
-    omega (arith, plan.inputs k, k.files.sound₁.inputs_low, k.files.sound₁.inputs_high)
+pub bounds-plan-plan : goal.bounds-plan-plan
+bounds-plan-plan c = let h = plan.some_inputs c.requires.prepared.planned in omega (arith, h.0, h.1)
 
 pub nonzero_div-stop : goal.nonzero_div-stop
 nonzero_div-stop c = axis-least (goal.at.nonzero_div-stop c).Start
@@ -75,21 +69,21 @@ lines_from-start-requires c = axis-least (goal.at.lines_from-start-requires c).S
 pub by_batches-requires : goal.by_batches-requires
 by_batches-requires c = record { prepared = c.requires.prepared; from_le_end = (omega (arith, c.requires.from_lt_end.0), c.requires.from_lt_end.1) }
 
-pub shape_of-rows-then-between-wide : goal.shape_of-rows-then-between-wide
-shape_of-rows-then-between-wide c = c.by_batches.auto.rows
+pub shape_of-rows-then-saturating_sub-wide : goal.shape_of-rows-then-saturating_sub-wide
+shape_of-rows-then-saturating_sub-wide c = c.by_batches.auto.rows
 
-pub shape_of-other-then-between-wide : goal.shape_of-other-then-between-wide
-shape_of-other-then-between-wide c = c.by_batches.auto.other
+pub shape_of-other-then-saturating_sub-wide : goal.shape_of-other-then-saturating_sub-wide
+shape_of-other-then-saturating_sub-wide c = c.by_batches.auto.other
 
-pub returns-then-between-wide : goal.returns-then-between-wide
-returns-then-between-wide c = record { found = c.by_batches.ensures; kept = refl }
+pub returns-then-saturating_sub-wide : goal.returns-then-saturating_sub-wide
+returns-then-saturating_sub-wide c = record { found = c.by_batches.ensures; kept = refl }
 
 pub overflow_mul-head : goal.overflow_mul-head
 overflow_mul-head c = omega (arith, (middle c).before, end_fits (goal.at.overflow_mul-head c).Start)
 
 pub by_batches-found-requires : goal.by_batches-found-requires
 by_batches-found-requires c =
-    let mid = middle (goal.at.by_batches-found-requires c).Else-between-wide in
+    let mid = middle (goal.at.by_batches-found-requires c).Else-saturating_sub-wide in
     record { prepared = c.requires.prepared; from_le_end = (mid.after, omega (arith, mid.before, c.requires.from_lt_end.1)) }
 
 pub shape_of-rows-then-found-head : goal.shape_of-rows-then-found-head
@@ -100,7 +94,7 @@ shape_of-other-then-found-head c = c.by_batches-found.auto.other
 
 pub returns-then-found-head : goal.returns-then-found-head
 returns-then-found-head c =
-    let mid = middle (goal.at.returns-then-found-head c).Else-between-wide in
+    let mid = middle (goal.at.returns-then-found-head c).Else-saturating_sub-wide in
     record {
       found =
           c.by_batches-found.ensures
@@ -111,7 +105,7 @@ returns-then-found-head c =
 pub agreed_lines-line-requires : goal.agreed_lines-line-requires
 agreed_lines-line-requires c =
     let a = c.args in
-    let kept = c.by_batches-found.auto in record { prepared = prepared_kept c.requires.prepared _ _ kept.rows kept.other; lists = c.requires.lists; from_le_end = ((middle (goal.at.agreed_lines-line-requires c).Else-between-wide).order, le_trans (line-most (last_axis a.plan) a.span.end _ (le_refl _)) c.requires.from_lt_end.1) }
+    let kept = c.by_batches-found.auto in record { prepared = prepared_kept c.requires.prepared _ _ kept.rows kept.other; lists = c.requires.lists; from_le_end = ((middle (goal.at.agreed_lines-line-requires c).Else-saturating_sub-wide).order, le_trans (line-most (last_axis a.plan) a.span.end _ (le_refl _)) c.requires.from_lt_end.1) }
 
 pub overflow_mul-line : goal.overflow_mul-line
 overflow_mul-line c = omega (arith, line-most (last_axis c.args.plan) c.args.span.end c.agreed_lines-line.result c.agreed_lines-line.ensures.high, end_fits (goal.at.overflow_mul-line c).Start)
@@ -145,7 +139,7 @@ returns c =
       found =
           c.by_batches-2.ensures
           ∙ sym
-          (passed _ _ (c.lines_from-start.result * u) _ _ (middle (goal.at.returns c).Else-between-wide).after (mul-le-mul_right u c.agreed_lines-line.ensures.low)
+          (passed _ _ (c.lines_from-start.result * u) _ _ (middle (goal.at.returns c).Else-saturating_sub-wide).after (mul-le-mul_right u c.agreed_lines-line.ensures.low)
           (line-most u a.span.end c.agreed_lines-line.result c.agreed_lines-line.ensures.high) (omega (arith, c.by_batches-found.ensures, past)) c.agreed_lines-line.ensures.agree);
       kept = c.agreed_lines-line.ensures.kept;
     }

@@ -2,9 +2,12 @@
 -- Assumes nothing.
 use mathlib.Core.Path.{refl, ◌∙◌, ap}
 use borrow.Author.Tests.{eq-eqb, ne_eqb}
+use Rattle.file_tables.proofs.Answers.{table-accepts}
 use Rattle.layouts.specs.AnswerWords.{refusal_words}
 use Rattle.layouts.specs.Lengths.{refusal_length}
 use Rattle.layouts.proofs.Written.{all-written}
+use Rattle.sizes.specs.Answered.{refusal_in}
+use Rattle.sizes.proofs.Answered.{refusal_in_answered}
 use Rattle.table_calls.proofs.table_call.Goals as goal
 
 pub returns-then-out-ne-REFUSAL_LENGTH : goal.returns-then-out-ne-REFUSAL_LENGTH
@@ -17,7 +20,9 @@ returns c =
     let e = eq-eqb _ refusal_length long in
     record {
       result = rw e;
-      out = rw e (c.put_refusal.ensures ∙ all-written refusal_length _ out refl long ∙ ap refusal_words c.make_table-r.ensures.refusal);
-      table = rw e c.make_table-r.ensures.table;
-      scratch = rw e c.make_table-r.ensures.scratch;
+      out = rw e (c.put_refusal.ensures ∙ all-written refusal_length _ out refl long ∙
+          ap (λ r. refusal_words (refusal_in r)) c.make_table.ensures.answer
+          ∙ ap refusal_words (refusal_in_answered _ tt (table-accepts _ _ _)));
+      table = rw e c.make_table.ensures.table;
+      scratch = rw e c.make_table.ensures.scratch;
     }

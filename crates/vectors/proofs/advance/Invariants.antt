@@ -18,6 +18,3 @@ pub record Carried (axes lows : List ℕ) (d : ℕ) (v₀ v : List ℕ) (i : ℕ
 
 abbrev pub invariant-loop-i : goal.invariant-loop-i
 invariant-loop-i l = (length l.v ≡ length l.initial.v) × Carried l.axes l.lows l.d l.initial.v l.v l.i
-
-abbrev pub decreases-loop-i : goal.decreases-loop-i
-decreases-loop-i l = l.i

@@ -1,50 +1,28 @@
 -- `vectors::lowest_words` meets its contract. The loop's invariant: the words of the first i lowest values are in their place.
 -- Assumes nothing.
-use Rattle.std.proofs.Common.{◌≡◌, ◌<◌, take, sym, refl, ap, ◌∙◌, subst, arith, w64, rules}
+use Rattle.std.proofs.Common.{◌≡◌, take, sym, refl, ap, ◌∙◌, arith, w64, rules}
 use mathlib.Core.List.{map-map}
 use mir.ValLaws.{to_z-of_z}
 use Rattle.formats.specs.Bytes.{format_of}
 use Rattle.formats.specs.Formats.{lowest}
 use Rattle.grid.specs.Grid.{lows_of}
 use Rattle.grid.proofs.Filled.{filled_more, filled-all}
-use Rattle.input_words.specs.InputWords.{Usable}
 use Rattle.sizes.specs.Padded.{padded}
-use Rattle.sizes.specs.Sizes.{max_inputs, formats_of}
+use Rattle.sizes.specs.Sizes.{formats_of}
 use Rattle.words.specs.Words.{word}
 use Rattle.vectors.specs.Vectors.{low_words}
 use Rattle.vectors.proofs.lowest_words.Goals.{After-word_of}
 use Rattle.vectors.proofs.lowest_words.Invariants.{low_of}
 use Rattle.vectors.proofs.lowest_words.Goals as goal
 
--- the loop goes no further than the inputs that a file may have
-few : (c : After-word_of) → c.loop-i.i < max_inputs
-few c = omega (arith, c.requires.inputs_high, c.loop-i-test.true)
-
 pub loop-i-init : goal.loop-i-init
 loop-i-init c = record { known = search rules; within = omega arith; filled = refl }
-
-pub bounds-widths-i : goal.bounds-widths-i
-bounds-widths-i c = omega (arith, c.requires.inputs_high, c.loop-i-test.true)
-
-pub lowest_value-low-requires : goal.lowest_value-low-requires
-lowest_value-low-requires c =
-    let l = c.loop-i-test.true in
-    subst Usable (sym c.format_of.ensures) (record { low = c.requires.width_low _ l; high = c.requires.width_high _ l })
-
-pub offset_bounds-lows-i : goal.offset_bounds-lows-i
-offset_bounds-lows-i c = omega (arith, few c)
-
-pub bounds-lows-i : goal.bounds-lows-i
-bounds-lows-i c = few c
-
-pub overflow_add-i : goal.overflow_add-i
-overflow_add-i c = omega (arith, few c)
 
 pub loop-i-preserved : goal.loop-i-preserved
 loop-i-preserved c =
     filled_more low_of _ _ _ _ c.loop-i.invariant c.requires.inputs_high _ c.loop-i-test.true
     (c.word_of.ensures
-    ∙ ap word (to_z-of_z w64 _ (record { sfits = c.lowest_value-low.type_inv }) ∙ c.lowest_value-low.ensures ∙ ap lowest c.format_of.ensures))
+    ∙ ap word (to_z-of_z w64 _ (record { sfits = c.lowest_value.type_inv }) ∙ c.lowest_value.ensures ∙ ap lowest c.format_of.ensures))
 
 pub returns : goal.returns
 unfolding low_words lows_of

@@ -1,6 +1,6 @@
 -- `vectors::lowest_words` meets its contract. The loop's invariant: the words of the first i lowest values are in their place.
 -- Assumes nothing.
-use Rattle.std.proofs.Common.{ℕ, ◌-◌}
+use Rattle.std.proofs.Common.{ℕ}
 use Rattle.formats.specs.Bytes.{format_of}
 use Rattle.formats.specs.Formats.{lowest}
 use Rattle.grid.proofs.Filled.{Filled}
@@ -12,7 +12,4 @@ abbrev pub low_of : ℕ → ℕ
 low_of b = word (lowest (format_of b))
 
 abbrev pub invariant-loop-i : goal.invariant-loop-i
-invariant-loop-i l = Filled low_of l.d l.widths l.lows l.i
-
-abbrev pub decreases-loop-i : goal.decreases-loop-i
-decreases-loop-i l = l.d - l.i
+invariant-loop-i l = Filled low_of l.z.d l.z.widths l.lows l.i

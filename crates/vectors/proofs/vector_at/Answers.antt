@@ -1,7 +1,7 @@
 -- `vectors::vector_at` meets its contract. The loop's invariant: the entries before i are 0, those from i on are the digits so far, and the
 -- rest counts blocks of the size of the axes from i on.
 -- Assumes nothing.
-use Rattle.std.proofs.Common.{◌≡◌, ℕ, zero, suc, ◌+◌, ◌-◌, ◌*◌, ◌/◌, ◌%◌, ◌^◌, ◌<◌, List, length, get_or, take, drop, set, replicate, sym, ap, ◌∙◌, subst, mod-lt, div-add-mod', arith, length-take-le, get_or-set_other, get_or-take, w64, Fits, rules}
+use Rattle.std.proofs.Common.{◌≡◌, ℕ, zero, suc, ◌+◌, ◌-◌, ◌*◌, ◌/◌, ◌%◌, ◌^◌, ◌<◌, List, length, get_or, refl, take, drop, set, replicate, sym, ap, ◌∙◌, subst, mod-lt, div-add-mod', arith, length-take-le, get_or-set_other, get_or-take, w64, Fits, rules}
 use lib.ListN.{get_or-replicate}
 use Rattle.places.specs.Places.{size, digits_at}
 use Rattle.places.proofs.Places.{one_to_one}
@@ -72,14 +72,14 @@ loop-i-init c =
     let axes : (i : ℕ) → get_or c.args.axes i 0 < 2 ^ 64 = λ i. (let f : Fits w64 (get_or c.args.axes i 0) = search rules in f.fits) in
     start _ _ _ _ (arrays _ _ _ (search rules) (search rules) c.requires.d_le_max_inputs lows axes) l c.requires.p_bound
 
-pub nonzero_rem-rest : goal.nonzero_rem-rest
-nonzero_rem-rest c = some c.loop-i.invariant c.loop-i-test.true
+pub nonzero_rem-v : goal.nonzero_rem-v
+nonzero_rem-v c = some c.loop-i.invariant c.loop-i-test.true
 
 pub nonzero_div-rest : goal.nonzero_div-rest
 nonzero_div-rest c = some c.loop-i.invariant c.loop-i-test.true
 
 pub loop-i-preserved : goal.loop-i-preserved
-loop-i-preserved c = more c.loop-i.invariant c.loop-i-test.true _ c.wrapping_add_u64.ensures.value
+loop-i-preserved c = more c.loop-i.invariant c.loop-i-test.true _ refl
 
 pub returns : goal.returns
 returns c =

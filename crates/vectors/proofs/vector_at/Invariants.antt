@@ -18,6 +18,3 @@ pub record Decoded (axes lows : List ℕ) (d p : ℕ) (v : List ℕ) (rest i : �
 
 abbrev pub invariant-loop-i : goal.invariant-loop-i
 invariant-loop-i l = Decoded l.axes l.lows l.d l.p l.v l.rest l.i
-
-abbrev pub decreases-loop-i : goal.decreases-loop-i
-decreases-loop-i l = l.i

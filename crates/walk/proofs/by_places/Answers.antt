@@ -88,7 +88,7 @@ module _
             }
 
 pub vector_at-v-requires : goal.vector_at-v-requires
-vector_at-v-requires c = record { d_le_max_inputs = omega (arith, plan.inputs c.requires.planned, c.requires.planned.files.sound₁.inputs_high); p_bound = omega (arith, c.requires.some, c.requires.inside) }
+vector_at-v-requires c = record { d_le_max_inputs = (plan.some_inputs c.requires.planned).1; p_bound = omega (arith, c.requires.some, c.requires.inside) }
 
 pub loop-p-init : goal.loop-p-init
 loop-p-init c =
@@ -133,12 +133,6 @@ advance-requires c =
     let k = c.loop-p.invariant in
     let g = k.span.planned in record { arrays = plan.arrays g; d_in_bounds = (plan.enough g, omega (arith, k.full, plan.inputs g, g.files.sound₁.inputs_high)); placed = placed k c.loop-p-test.true }
 
-pub overflow_add-p : goal.overflow_add-p
-overflow_add-p c = omega (arith, c.loop-p-test.true)
-
-pub loop-p-smaller : goal.loop-p-smaller
-loop-p-smaller c = omega (arith, c.loop-p-test.true)
-
 pub loop-p-preserved : goal.loop-p-preserved
 loop-p-preserved c =
     more c.loop-p.invariant c.loop-p-test.true
@@ -148,4 +142,6 @@ pub shape_of-scratch : goal.shape_of-scratch
 shape_of-scratch c = c.loop-p.invariant.long
 
 pub returns : goal.returns
-returns c = record { found = finished c.loop-p.invariant c.loop-p-test.false; kept = c.loop-p.invariant.kept }
+returns c =
+    let e : c.args.span.end ≡ c.loop-p.p = omega (arith, c.loop-p.invariant.within) in
+    record { found = e ∙ finished c.loop-p.invariant c.loop-p-test.false; kept = c.loop-p.invariant.kept }

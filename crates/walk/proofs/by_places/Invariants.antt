@@ -25,6 +25,3 @@ pub record Passed (s₁ s₂ : List ℕ) (g : Plan) (h : Span) (scratch₀ scrat
 
 abbrev pub invariant-loop-p : goal.invariant-loop-p
 invariant-loop-p l = Passed l.file1 l.file2 l.plan l.span l.initial.scratch l.scratch l.v l.p
-
-abbrev pub decreases-loop-p : goal.decreases-loop-p
-decreases-loop-p l = l.span.end - l.p

@@ -2,7 +2,7 @@
 use mathlib.Core.List.{◌++◌}
 use Rattle.text.specs.Text.{line, spaced}
 use Rattle.text.specs.Writing.{RoomFor}
-use Rattle.text.proofs.Over.{room-first, room-second, put_then}
+use Rattle.text.proofs.Over.{put_then}
 use Rattle.text.proofs.Spaced.{line-halves}
 use Rattle.writing.proofs.put_halves.Goals.{Start}
 use Rattle.writing.proofs.put_halves.Goals as goal
@@ -13,12 +13,6 @@ room :
     let a = s.args in
     RoomFor (a.word.now ++ spaced a.ns.now ++ a.sign.now ++ line (spaced a.ms.now)) a.text.now a.at
 room s = rw line-halves at s.requires
-
-pub put_words-next-requires : goal.put_words-next-requires
-put_words-next-requires c = room-first _ _ (room (goal.at.put_words-next-requires c).Start)
-
-pub put_words-requires : goal.put_words-requires
-put_words-requires c = room-second (room (goal.at.put_words-requires c).Start) c.put_words-next.ensures
 
 pub returns : goal.returns
 returns c = rw line-halves (put_then (room (goal.at.returns c).Start) c.put_words-next.ensures c.put_words.ensures)

@@ -10,17 +10,17 @@ use Rattle.text.proofs.Over.{room-second, put-start, put_then}
 use Rattle.text.proofs.Spaced.{spaced-step, spaced-room}
 use Rattle.writing.proofs.put_numbers.Goals as goal
 
-pub loop-i-init : goal.loop-i-init
+pub loop-n-init : goal.loop-n-init
 unfolding spaced_by
-loop-i-init c = (omega arith, refl, put-start _ _)
+loop-n-init c = (omega arith, refl, put-start _ _)
 
 pub put_number-next-requires : goal.put_number-next-requires
-put_number-next-requires c = room-second (spaced-room decimal c.args.ns.now c.loop-i.i 0 c.loop-i-test.true c.requires) c.loop-i.invariant.2
+put_number-next-requires c = room-second (spaced-room decimal c.args.ns.now c.loop-n.n-index 0 c.loop-n-test.true c.requires) c.loop-n.invariant.2
 
-pub loop-i-preserved : goal.loop-i-preserved
-loop-i-preserved c =
-    let i = c.loop-i.i in
-    let inv = c.loop-i.invariant in (
+pub loop-n-preserved : goal.loop-n-preserved
+loop-n-preserved c =
+    let i = c.loop-n.n-index in
+    let inv = c.loop-n.invariant in (
       omega arith,
       search rules,
       rw (spaced-step decimal c.args.ns.now i 0 (omega arith))
@@ -28,4 +28,4 @@ loop-i-preserved c =
     )
 
 pub returns : goal.returns
-returns c = rw (take_all c.loop-i.i _ c.loop-i-test.false) at c.loop-i.invariant.2
+returns c = rw (take_all c.loop-n.n-index _ c.loop-n-test.false) at c.loop-n.invariant.2

@@ -16,7 +16,7 @@ use Rattle.text.specs.Writing.{Put}
 use Rattle.text.proofs.Over.{room-second, put-start, put_then}
 use Rattle.text.proofs.Spaced.{spaced-step, spaced-room}
 use Rattle.writing.proofs.Values.{length-written, written_entry}
-use Rattle.writing.proofs.put_values.Goals.{After-format_of, At-loop-i, Then-i-ws}
+use Rattle.writing.proofs.put_values.Goals.{After-format_of, At-loop-i}
 use Rattle.writing.proofs.put_values.Invariants.{values}
 use Rattle.writing.proofs.put_values.Goals as goal
 
@@ -24,23 +24,17 @@ use Rattle.writing.proofs.put_values.Goals as goal
 abbrev written : At-loop-i → List ℤ
 written turn = values turn.args.widths.now turn.args.ws.now
 
--- the second test of the loop, as an order of numbers
-another : (c : Then-i-ws) → c.loop-i.i < length c.args.ws.now
-another c = c.if-i-ws.true
-
--- where both have passed there is a value more
-more : (c : Then-i-ws) → c.loop-i.i < length (values c.args.widths.now c.args.ws.now)
-more c =
-    let a = c.args in
-    omega (arith, length-written a.widths.now a.ws.now, c.loop-i-test.true, another c)
+-- there is a value for each of both
+more : (c : After-format_of) → c.loop-i.i < length (values c.args.widths.now c.args.ws.now)
+more c = let a = c.args in omega (arith, length-written a.widths.now a.ws.now, c.loop-i-test.true)
 
 -- and its word gives it, from the place where its format is known
 value :
     (c : After-format_of) →
-    get_or (written (goal.at.offset_bounds-ws-i c).At-loop-i) c.loop-i.i (pos 0) ≡ value_of c.format_of.result (get_or c.args.ws.now c.loop-i.i 0)
+    get_or (values c.args.widths.now c.args.ws.now) c.loop-i.i (pos 0) ≡ value_of c.format_of.result (get_or c.args.ws.now c.loop-i.i 0)
 value c =
     let a = c.args in
-    rw c.format_of.ensures (written_entry a.widths.now a.ws.now c.loop-i.i c.loop-i-test.true (another (goal.at.offset_bounds-ws-i c).Then-i-ws))
+    rw c.format_of.ensures (written_entry a.widths.now a.ws.now c.loop-i.i (omega (arith, c.loop-i-test.true)) (omega (arith, c.loop-i-test.true)))
 
 -- all values are written where there are no more of them
 all :
@@ -56,28 +50,19 @@ loop-i-init c = (omega arith, refl, put-start _ _)
 pub put_value-next-requires : goal.put_value-next-requires
 put_value-next-requires c =
     rw (value (goal.at.put_value-next-requires c).After-format_of) at
-    (room-second (spaced-room integer (written (goal.at.put_value-next-requires c).At-loop-i) c.loop-i.i (pos 0) (more (goal.at.put_value-next-requires c).Then-i-ws) c.requires) c.loop-i.invariant.2)
+    (room-second (spaced-room integer (written (goal.at.put_value-next-requires c).At-loop-i) c.loop-i.i (pos 0) (more (goal.at.put_value-next-requires c).After-format_of) c.requires) c.loop-i.invariant.2)
 
 pub loop-i-preserved : goal.loop-i-preserved
 loop-i-preserved c =
     let i = c.loop-i.i in
-    let room = spaced-room integer (written (goal.at.loop-i-preserved c).At-loop-i) i (pos 0) (more (goal.at.loop-i-preserved c).Then-i-ws) c.requires in
+    let room = spaced-room integer (written (goal.at.loop-i-preserved c).At-loop-i) i (pos 0) (more (goal.at.loop-i-preserved c).After-format_of) c.requires in
     let put = rw (← value (goal.at.loop-i-preserved c).After-format_of) at c.put_value-next.ensures in (
-      omega (arith, more (goal.at.loop-i-preserved c).Then-i-ws),
+      omega (arith, more (goal.at.loop-i-preserved c).After-format_of),
       search rules,
-      rw (spaced-step integer (written (goal.at.loop-i-preserved c).At-loop-i) i (pos 0) (more (goal.at.loop-i-preserved c).Then-i-ws)) (put_then room c.loop-i.invariant.2 put),
+      rw (spaced-step integer (written (goal.at.loop-i-preserved c).At-loop-i) i (pos 0) (more (goal.at.loop-i-preserved c).After-format_of)) (put_then room c.loop-i.invariant.2 put),
     )
 
-pub returns-else-i-ws : goal.returns-else-i-ws
-returns-else-i-ws c =
+pub returns : goal.returns
+returns c =
     let a = c.args in
-    let end : length a.ws.now ≤ c.loop-i.i = c.if-i-ws.false in
-    all (goal.at.returns-else-i-ws c).At-loop-i (omega (arith, length-written a.widths.now a.ws.now))
-
-pub returns-after-loop-i : goal.returns-after-loop-i
-returns-after-loop-i c =
-    let a = c.args in
-    all (goal.at.returns-after-loop-i c).At-loop-i (omega (arith, length-written a.widths.now a.ws.now, c.loop-i-test.false))
-
-pub offset_bounds-ws-i : goal.offset_bounds-ws-i
-offset_bounds-ws-i c = search rules
+    all (goal.at.returns c).At-loop-i (omega (arith, length-written a.widths.now a.ws.now, c.loop-i-test.false))

@@ -3,7 +3,7 @@
 -- Assumes nothing.
 use mathlib.Core.List.{List, map}
 use mathlib.Core.Path.{◌≡◌}
-use Prim.Native.Nat.{ℕ, ◌-◌, ◌≤◌}
+use Prim.Native.Nat.{ℕ, ◌≤◌}
 use lib.IntN.{ℤ}
 use lib.ListN.{length, take}
 use Rattle.formats.specs.Bytes.{format_of}
@@ -18,6 +18,3 @@ values widths ws = values_of (map format_of widths) ws
 
 abbrev pub invariant-loop-i : goal.invariant-loop-i
 invariant-loop-i l = (l.i ≤ length (values l.widths l.ws)) × (length l.text ≡ length l.initial.text) × Put (spaced_integers (take l.i (values l.widths l.ws))) l.initial.text l.text l.at l.next
-
-abbrev pub decreases-loop-i : goal.decreases-loop-i
-decreases-loop-i l = length l.widths - l.i

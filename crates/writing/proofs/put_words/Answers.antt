@@ -2,15 +2,9 @@
 use mathlib.Core.List.{◌++◌}
 use Rattle.text.specs.Text.{spaced}
 use Rattle.text.specs.Writing.{Put}
-use Rattle.text.proofs.Over.{room-first, room-second, put_then}
+use Rattle.text.proofs.Over.{room-first, put_then}
 use Rattle.writing.proofs.put_words.Goals.{After-put_numbers-last}
 use Rattle.writing.proofs.put_words.Goals as goal
-
-pub put_bytes-numbers-requires : goal.put_bytes-numbers-requires
-put_bytes-numbers-requires c = room-first _ _ (room-first _ _ c.requires)
-
-pub put_numbers-last-requires : goal.put_numbers-last-requires
-put_numbers-last-requires c = room-second (room-first _ _ c.requires) c.put_bytes-numbers.ensures
 
 -- the word and the numbers
 two :
@@ -18,9 +12,6 @@ two :
     let a = c.args in
     Put (a.word.now ++ spaced a.ns.now) a.text.now c.put_numbers-last.new.text a.at c.put_numbers-last.result
 two c = put_then (room-first _ _ c.requires) c.put_bytes-numbers.ensures c.put_numbers-last.ensures
-
-pub put_bytes-requires : goal.put_bytes-requires
-put_bytes-requires c = room-second c.requires (two (goal.at.put_bytes-requires c).After-put_numbers-last)
 
 pub returns : goal.returns
 returns c = put_then c.requires (two (goal.at.returns c).After-put_numbers-last) c.put_bytes.ensures

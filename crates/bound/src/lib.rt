@@ -20,17 +20,20 @@ fn listed_bound(m: u64) -> u64
 }
 
 // L(m) by algorithm 1 of document 002, for m from 1 to 64: m plus the quotients of what remains of it by 2^v - 1, for
-// v from the logarithm of 1 + m down.
+// v from the logarithm of 1 + m down, as long as something remains. It divides 32-bit numbers, which are enough.
 pub fn bound(m: u64) -> u64
     requires { (1 ≤ m) × (m ≤ 64) }
     ensures { result ≡ bound m }
 {
-    let mut rem = m;
+    let mut rem = m as u32;
     let mut n = 0;
     for v in (1..(1 + m).ilog2() + 1).rev() {
+        if rem == 0 {
+            break;
+        }
         let a = (1 << v) - 1;
         n += rem / a;
         rem %= a;
     }
-    m + n
+    m + u64::from(n)
 }

@@ -51,6 +51,10 @@ module _ (m g : ℕ) (cells : List ℕ) (len : ℕ) where
     unfolding bad_cells
     cells-judged l = rw (le-ltb (length cells) g h, le-ltb len g l)
 
+    -- of slices that are long enough the cells decide
+    pub judged_any : g ≤ len → list_any (λ x. not (eqb (x % 2 ^ m) x)) (take g cells) ≡ bad_cells m g cells len
+    judged_any l = any_large m cells g h ∙ sym (cells-judged l)
+
 module _ (z : Sizes) (cells : List ℕ) (len : ℕ) where
   pub fitting : bad_cells z.m (grid_size z) cells len ≡ false → Fitting z cells len
   unfolding bad_cells large_cell small_cell

@@ -1,9 +1,12 @@
--- The derived equality of sizes is that of m, d and all width bytes. Assumes nothing.
+-- The derived equality of sizes is that of m, d and all width bytes; and what decides whether these are the same, one after the other.
+-- Assumes nothing.
 use mathlib.Core.Bool.{Bool, true, false, ◌&&◌, and-eq-true_iff}
 use mathlib.Core.Path.{◌≡◌, refl, sym, ◌∙◌, ap}
 use borrow.Author.Tests.{eq-eqb, eqb-true}
 use lib.Dec.{eqb}
-use lib.ListN.{length}
+use Prim.Native.Nat.{ℕ}
+use lib.ListN.{length, get_or}
+use Rattle.ranges.specs.Search.{every}
 use lib.Pointwise.{pointwise, bytes_decides}
 use Rattle.sizes.specs.Sizes.{max_inputs}
 use Rattle.sizes.specs.declared.Sizes.{Sizes}
@@ -36,3 +39,17 @@ derived_same z w lz lw = together _ _ there back
         let same = same-equal z w lz lw e in
         simp
         (eq-eqb _ _ (ap (λ (z : Sizes). z.m) same), eq-eqb _ _ (ap (λ (z : Sizes). z.d) same), (bytes_decides z.widths w.widths).1 (ap (λ (z : Sizes). z.widths) same))
+
+-- m decides, then d, and where both are the same the width bytes
+module _ (z w : Sizes) where
+  pub differ_m : eqb z.m w.m ≡ false → false ≡ same_sizes z w
+  unfolding same_sizes
+  differ_m e = rw e refl
+
+  pub differ_d : eqb z.m w.m ≡ true → eqb z.d w.d ≡ false → false ≡ same_sizes z w
+  unfolding same_sizes
+  differ_d e f = rw (e, f) refl
+
+  pub same_widths : z.m ≡ w.m → z.d ≡ w.d → every (λ (i : ℕ). eqb (get_or z.widths i 0) (get_or w.widths i 0)) 0 max_inputs ≡ same_sizes z w
+  unfolding same_sizes
+  same_widths e f = rw (eq-eqb z.m w.m e, eq-eqb z.d w.d f) refl

@@ -10,12 +10,12 @@ use file::check_as;
 use sessions::{Mark, Session};
 use sizes::{INPUTS, Refusal, Sizes, refused_by};
 
-// Whether m, d and all width bytes are the same: `==` under the name that the definition has.
-#[tactic(auto, using(crate::proofs::Same::derived_same))]
+// Whether m, d and all width bytes are the same. A test for each and not `==`, since its edits change one of them.
+#[tactic(auto, using(crate::proofs::Same::differ_m, crate::proofs::Same::differ_d))]
 pub fn same_sizes(z: Sizes, w: Sizes) -> bool
     ensures { result ≡ same_sizes z w }
 {
-    z == w
+    z.m == w.m && z.d == w.d && (0..INPUTS).all(|i| z.widths[i] == w.widths[i])
 }
 
 // Whether opening and continuing take two files; else what they are refused by: file 1, file 2 or 9, in this order.

@@ -12,6 +12,7 @@ use Rattle.bound.specs.Bound.{bound, log2, greedy}
 use Rattle.bound.proofs.Computed.{log2_unique, greedy_0, greedy-step}
 use Rattle.bound.proofs.Table.{bound-most}
 use Rattle.bound.proofs.bound.Invariants.{Adding}
+use Rattle.bound.proofs.bound.Goals.{else-loop-v-test, then-loop-v-test+then-rem-eq0}
 use Rattle.bound.proofs.bound.Goals as goal
 
 start : (m j : ℕ) → 1 ≤ m → m ≤ 64 → 2 ^ j ≤ 1 + m → 1 + m < 2 * 2 ^ j → Adding m (j + 1) m 0
@@ -33,7 +34,7 @@ start m j low high least most =
 
 -- 2^v − 1, in the word's arithmetic
 abbrev part : ℕ → ℕ
-part v = 1 * 2 ^ v % 2 ^ 64 - 1
+part v = 1 * 2 ^ v % 2 ^ 32 - 1
 
 module _ (m v rem n : ℕ) (p : Adding m v rem n) where
   -- no more is added than to the largest bound
@@ -41,16 +42,17 @@ module _ (m v rem n : ℕ) (p : Adding m v rem n) where
   unfolding bound
   adds-most = omega (arith, p.adds, bound-most m p.low p.high)
 
+  -- where nothing remains, all is added
+  nothing : rem ≡ 0 → n ≡ greedy (log2 (1 + m)) m
+  nothing e = omega (arith, p.adds, greedy_0 (v - 1), ap (greedy (v - 1)) e)
+
   -- after the last v nothing remains
   ended : v ≤ 1 → n ≡ greedy (log2 (1 + m)) m
-  ended h =
-      let e : v ≡ 1 = omega (arith, p.above) in
-      let z : rem ≡ 0 = omega (arith, rw e at p.remains) in
-      omega (arith, p.adds, greedy_0 (v - 1), ap (greedy (v - 1)) z)
+  ended h = let e : v ≡ 1 = omega (arith, p.above) in nothing (omega (arith, rw e at p.remains))
 
   module _ (more : 1 < v) where
     exact : part (v - 1) ≡ 2 ^ (v - 1) - 1
-    exact = ap (λ x. x - 1) (power_shifted 64 (v - 1) (omega (arith, p.few)))
+    exact = ap (λ x. x - 1) (power_shifted 32 (v - 1) (omega (arith, p.few)))
 
     part-least : 0 < part (v - 1)
     part-least = rw exact (omega (arith, pow_mono {i = 1} {j = v - 1} (omega arith)))
@@ -91,4 +93,11 @@ overflow_add-result c = let l = c.loop-v in record { fits = omega (arith, adds-m
 
 pub returns : goal.returns
 unfolding bound
-returns c = ap (λ g. c.args.m + g) (ended _ _ _ _ c.loop-v.invariant (omega arith))
+returns c =
+    let p = c.loop-v.invariant in
+    ap (λ g. c.args.m + g)
+    (c.from.ensures
+    ∙ elim c.loop-v-test.branch [
+      | else-loop-v-test w ↦ ended _ _ _ _ p (omega (arith, w.loop-v-test.false))
+      | then-loop-v-test+then-rem-eq0 w ↦ nothing _ _ _ _ p w.if-rem-eq0.true
+    ])
